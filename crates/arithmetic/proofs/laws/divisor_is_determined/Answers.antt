@@ -1,0 +1,5 @@
+use Rattle.arithmetic.proofs.Divisors.{divisor-is-determined}
+use Rattle.arithmetic.proofs.laws.divisor_is_determined.Needs as need
+
+pub returns : need.returns
+returns c = divisor-is-determined
