@@ -1,16 +1,13 @@
--- The greatest common divisor, step by step, and its factors.
-use mathlib.Core.Path.{_≡_, refl, sym, ap, subst, _∙_}
-use mathlib.Core.Bool.{Bool, true, false, not, cond, _&&_}
+-- The greatest common divisor: one step of Euclid's algorithm, and that it is the one number that `gcd` names.
+use mathlib.Core.Path.{_≡_, sym, subst, _∙_}
+use mathlib.Core.Bool.{Bool, true, false, _&&_}
 use mathlib.Core.Logic.{_⊎_, inl, inr, ⊎-elim}
-use Prim.Native.Nat.{ℕ, zero, suc, _+_, _-_, _*_, _/_, _%_, _≤_, _<_, _∣_, max}
-use native.Mathlib.Nat.{div-add-mod', mul-le-mul-left, mod-lt, dvd-refl, dvd-zero, dvd-mod-iff, dvd-antisymm, dvd-of-mod-eq-zero, mod-eq-zero-of-dvd, le-of-dvd, pos-of-dvd-of-pos}
+use Prim.Native.Nat.{ℕ, zero, suc, _%_, _≤_, _<_, _∣_, max}
+use native.Mathlib.Nat.{dvd-refl, dvd-zero, dvd-mod-iff, dvd-antisymm, dvd-of-mod-eq-zero, mod-eq-zero-of-dvd, le-of-dvd, pos-of-dvd-of-pos}
 use native.Mathlib.Omega.{arith}
-use Rattle.std.specs.Orderings.{When}
 use lib.Dec.{eqb}
-use Rattle.std.proofs.shelf.Tests.{cases-lt, cases-bool, cases-order, and-parts, eqb-true, eq-eqb, and-from, cond-true, cond-false, both-ways}
-use Rattle.arithmetic.specs.declared.euclid.Bezout.{Bezout}
-use Rattle.arithmetic.specs.Divisors.{Greatest, gcd, largest-divisor, Determined, Divisor-is-determined}
-use Rattle.arithmetic.specs.Factors.{Bounded, Reduced}
+use Rattle.std.proofs.shelf.Tests.{cases-bool, cases-order, and-parts, eqb-true, eq-eqb, and-from, cond-true, cond-false, both-ways}
+use Rattle.arithmetic.specs.Divisors.{Greatest, gcd, largest-divisor}
 
 pub greatest-zero : (a : ℕ) → Greatest a 0 a
 greatest-zero a = record { divides-first = dvd-refl a; divides-second = dvd-zero a; greatest = λ d p q. p }
@@ -22,33 +19,6 @@ greatest-step a b g h = record {
   divides-second = h .divides-first;
   greatest = λ d p q. h .greatest d q (dvd-mod-iff d q .1 p);
 }
-
-pub combines-step : (a b g x y : ℕ) (s : Bool) → When s (a % b * y ≡ g + b * x) (b * x ≡ g + a % b * y)
-    → When (not s) (b * (x + a / b * y) ≡ g + a * y) (a * y ≡ g + b * (x + a / b * y))
-combines-step a b g x y true h = omega (arith, ap (λ n. n * y) (div-add-mod' a b))
-combines-step a b g x y false h = omega (arith, ap (λ n. n * y) (div-add-mod' a b))
-
--- the new factor of b stays within its bound
-pub factor-bound : (a b : ℕ) (r : Bezout) → 0 < b → Bounded b (a % b) r → Reduced (a % b) r → r .x + a / b * r .y ≤ max a 1
-factor-bound a b r pos h z =
-    let whole = div-add-mod' a b in
-    ⊎-elim
-    (λ (lt : 0 < a % b).
-    let y : r .y ≤ b = omega (arith, h .y-bound) in
-    let m = mul-le-mul-left (a / b) y in omega (arith, h .x-bound))
-    (λ (le : a % b ≤ 0).
-    let y : r .y ≡ 0 = z (omega arith) in
-    let m = ap (λ n. a / b * n) y in omega (arith, h .x-bound))
-    (cases-lt 0 (a % b))
-
--- a common divisor, by Euclid's algorithm in at most n steps
-found : (n a b : ℕ) → b ≤ n → (g : ℕ) × Greatest a b g
-found n a zero le = (a, greatest-zero a)
-found zero a (suc b) le = absurd (omega arith)
-found (suc n) a (suc b) le =
-    let lt : a % suc b < suc b = mod-lt a (omega arith) in
-    let h = found n (suc b) (a % suc b) (omega arith) in
-    (h .0, greatest-step a (suc b) (h .0) (h .1))
 
 abbrev divides-both : ℕ → ℕ → ℕ → Bool
 divides-both a b d = eqb (a % d) 0 && eqb (b % d) 0
@@ -82,7 +52,7 @@ first-below a b g (suc n) pos le h =
     smaller (inr (inl lt)) f = omega arith
     smaller (inr (inr gt)) f = absurd (omega arith)
 
-gcd-of : (a b g : ℕ) → Greatest a b g → gcd a b ≡ g
+pub gcd-of : (a b g : ℕ) → Greatest a b g → gcd a b ≡ g
 unfolding gcd
 gcd-of zero zero g h = sym (dvd-antisymm (dvd-zero g) (h .greatest 0 (dvd-zero 0) (dvd-zero 0))) 
 gcd-of zero (suc b) g h = first-below zero (suc b) g (max zero (suc b)) (pos-of-dvd-of-pos (h .divides-second) (omega arith)) (omega (arith, le-of-dvd {n = suc b} (omega arith) (h .divides-second))) h
@@ -90,8 +60,3 @@ gcd-of (suc a) b g h = first-below (suc a) b g (max (suc a) b) (pos-of-dvd-of-po
 
 pub greatest-unique : (a b g h : ℕ) → Greatest a b g → Greatest a b h → g ≡ h
 greatest-unique a b g h p q = sym (gcd-of a b g p) ∙ gcd-of a b h q
-
-pub divisor-is-determined : Divisor-is-determined
-divisor-is-determined a b =
-    let f = found b a b (omega arith) in
-    record { exists = subst (λ (g : ℕ). Greatest a b g) (sym (gcd-of a b (f .0) (f .1))) (f .1); only = λ g h. sym (gcd-of a b g h) }

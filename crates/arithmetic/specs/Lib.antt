@@ -1,3 +1,7 @@
 pub mod Division
 pub mod Divisors
+pub mod Entries
 pub mod Factors
+pub mod Laws
+pub mod Meetings
+pub mod Occurrences

@@ -11,7 +11,7 @@ pub fn divide_up(total: u64, size: NonZeroU64) -> u64
     rounded_up(total, size.get())
 }
 
-fn rounded_up(total: u64, size: u64) -> u64
+pub(crate) fn rounded_up(total: u64, size: u64) -> u64
     requires { ⌜ 0 < size ⌝ }
     ensures { λ r. ⌜ Rounded-up total size r ⌝ }
 {

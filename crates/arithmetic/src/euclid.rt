@@ -2,7 +2,7 @@
 ghost use mathlib.Core.Path.{_≡_};
 ghost use Prim.Native.Nat.{ℕ};
 ghost use Rattle.arithmetic.specs.Divisors.{Greatest};
-ghost use Rattle.arithmetic.specs.Factors.{Combines, Bounded, Reduced};
+ghost use Rattle.arithmetic.specs.Factors.{Identity, Reduced};
 
 // The greatest common divisor; of 0 and 0 it is 0, which every number divides.
 pub fn gcd(a: u64, b: u64) -> u64
@@ -29,18 +29,14 @@ pub struct Bezout {
 // The greatest common divisor with factors that combine `a` and `b` to it. The factors stay so small that
 // nothing overflows, whatever `a` and `b` are.
 pub fn extended_gcd(a: u64, b: u64) -> Bezout
-    ensures greatest { λ r. ⌜ Greatest a b (r .divisor) ⌝ }
-    ensures combines { λ r. ⌜ Combines a b r ⌝ }
-    ensures bounded { λ r. ⌜ Bounded a b r ⌝ }
+    ensures { λ r. ⌜ Identity a b r ⌝ }
 {
     extended_euclid(a, b)
 }
 
 // As above, with what the recursion needs besides: 0 as second number takes no part.
 fn extended_euclid(a: u64, b: u64) -> Bezout
-    ensures greatest { λ r. ⌜ Greatest a b (r .divisor) ⌝ }
-    ensures combines { λ r. ⌜ Combines a b r ⌝ }
-    ensures bounded { λ r. ⌜ Bounded a b r ⌝ }
+    ensures identity { λ r. ⌜ Identity a b r ⌝ }
     ensures reduced { λ r. ⌜ Reduced b r ⌝ }
 {
     if b == 0 {

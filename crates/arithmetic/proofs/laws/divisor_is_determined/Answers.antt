@@ -1,4 +1,4 @@
-use Rattle.arithmetic.proofs.Divisors.{divisor-is-determined}
+use Rattle.arithmetic.proofs.Factors.{divisor-is-determined}
 use Rattle.arithmetic.proofs.laws.divisor_is_determined.Needs as need
 
 pub returns : need.returns
