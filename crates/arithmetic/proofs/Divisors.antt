@@ -54,7 +54,7 @@ first-below a b g (suc n) pos le h =
 
 pub gcd-of : (a b g : ℕ) → Greatest a b g → gcd a b ≡ g
 unfolding gcd
-gcd-of zero zero g h = sym (dvd-antisymm (dvd-zero g) (h .greatest 0 (dvd-zero 0) (dvd-zero 0))) 
+gcd-of zero zero g h = sym (dvd-antisymm (dvd-zero g) (h .greatest 0 (dvd-zero 0) (dvd-zero 0)))
 gcd-of zero (suc b) g h = first-below zero (suc b) g (max zero (suc b)) (pos-of-dvd-of-pos (h .divides-second) (omega arith)) (omega (arith, le-of-dvd {n = suc b} (omega arith) (h .divides-second))) h
 gcd-of (suc a) b g h = first-below (suc a) b g (max (suc a) b) (pos-of-dvd-of-pos (h .divides-first) (omega arith)) (omega (arith, le-of-dvd {n = suc a} (omega arith) (h .divides-first))) h
 

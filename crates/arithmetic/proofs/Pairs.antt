@@ -5,9 +5,9 @@ use mathlib.Core.Logic.{_⊎_, ⊎-elim}
 use Prim.Native.Nat.{ℕ, _+_, _-_, _*_, _%_, _<_, _≤_}
 use native.Mathlib.Nat.{mul-le-mul-right, mod-lt}
 use native.Mathlib.Omega.{arith}
-use lib.Dec.{leb}
-use Rattle.std.specs.Orderings.{Decides}
-use Rattle.std.proofs.shelf.Tests.{le-leb, lt-leb, leb-false, and-cases, and-from, both-ways, cases-lt, cases-order}
+use lib.Dec.{leb, ltb}
+use Rattle.std.specs.Orderings.{When}
+use Rattle.std.proofs.shelf.Tests.{le-leb, lt-leb, ltb-true, ltb-false, and-from, both-ways, cases-lt, cases-order}
 use Rattle.arithmetic.specs.declared.entry.Entry.{Entry}
 use Rattle.arithmetic.specs.declared.pair.OccurrencePair.{OccurrencePair}
 use Rattle.arithmetic.specs.Divisors.{gcd}
@@ -22,10 +22,10 @@ use Rattle.arithmetic.proofs.Tests.{finite-test-decides}
 pub proper : (e : Entry) → Proper (endless e)
 proper e = record { repeats = e .repeats; lasts = e .lasts }
 
-pub test-decides : (a b : Entry) (r : Bool) → r ≡ apart (endless a) (endless b) → Decides r (Never (endless a) (endless b))
-test-decides a b r e =
-    let h = finite-test-decides (endless a) (endless b) (proper a) (proper b) in
-    (λ t. h .0 (sym e ∙ t), λ n. e ∙ h .1 n)
+-- an answer of the test says what it means
+pub test-says : (a b : Entry) (r : Bool) → r ≡ apart (endless a) (endless b) → When r (Never (endless a) (endless b)) (apart (endless a) (endless b) ≡ false)
+test-says a b true e = finite-test-decides (endless a) (endless b) (proper a) (proper b) .0 (sym e)
+test-says a b false e = sym e
 
 -- the test's value, where the divisor and the gap are known
 pub test-is : (a b : Entry) (g x : ℕ) → g ≡ gcd (a .repeat) (b .repeat) → x ≡ gap g (a .start) (b .start)
@@ -99,7 +99,7 @@ meet-second a b r x lt h = record {
 one-repeat : (s p u m n t : ℕ) → u ≤ p → m < n → s + n * p ≤ t → t < s + m * p + u → ⊥
 one-repeat s p u m n t le lt a b = omega (arith, mul-le-mul-right p lt)
 
-pub never-itself : (a : Entry) → a .span ≤ a .repeat → Never-itself (endless a)
+never-itself : (a : Entry) → a .span ≤ a .repeat → Never-itself (endless a)
 never-itself a le m n ne o =
     ⊎-elim (λ (e : m ≡ n). ne e)
     (⊎-elim
@@ -107,7 +107,7 @@ never-itself a le m n ne o =
     (λ (lt : n < m). one-repeat (a .start) (a .repeat) (a .span) n m (o .0) le lt (o .1 .0 .0) (o .1 .1 .1)))
     (cases-order m n)
 
-pub overlapping-itself : (a : Entry) → a .repeat < a .span → Overlapping-itself (endless a) (record { first = 0; second = 1 })
+overlapping-itself : (a : Entry) → a .repeat < a .span → Overlapping-itself (endless a) (record { first = 0; second = 1 })
 overlapping-itself a lt = record {
   different = λ e. omega arith;
   overlapping = record {
@@ -116,3 +116,10 @@ overlapping-itself a lt = record {
     second-limit = omega arith;
   };
 }
+
+pub outlasts-says : (a : Entry) → When (ltb (a .repeat) (a .span)) (Overlapping-itself (endless a) (record { first = 0; second = 1 })) (Never-itself (endless a))
+outlasts-says a = by (ltb (a .repeat) (a .span)) refl
+  where
+    by : (t : Bool) → ltb (a .repeat) (a .span) ≡ t → When t (Overlapping-itself (endless a) (record { first = 0; second = 1 })) (Never-itself (endless a))
+    by true e = overlapping-itself a (ltb-true (a .repeat) (a .span) e)
+    by false e = never-itself a (ltb-false (a .repeat) (a .span) e)

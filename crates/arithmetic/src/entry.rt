@@ -23,5 +23,7 @@ pub enum OutOfLimits {
 }
 
 pub const START_MAX: u64 = 100_000_000;
+
 pub const REPEAT_MAX: u64 = 64_000_000;
+
 pub const SPAN_MAX: u64 = 1_000_000;

@@ -31,22 +31,22 @@ impl Entry {
         })
     }
 
-    pub fn start(&self) -> u32
+    pub fn start(&self) -> u64
         ensures { λ r. ⌜ r ≡ now (self .entry) .start ⌝ }
     {
-        self.start
+        self.start as u64
     }
 
-    pub fn repeat(&self) -> u32
+    pub fn repeat(&self) -> u64
         ensures { λ r. ⌜ r ≡ now (self .entry) .repeat ⌝ }
     {
-        self.repeat
+        self.repeat as u64
     }
 
-    pub fn span(&self) -> u32
+    pub fn span(&self) -> u64
         ensures { λ r. ⌜ r ≡ now (self .entry) .span ⌝ }
     {
-        self.span
+        self.span as u64
     }
 
     // When an occurrence begins.

@@ -4,7 +4,7 @@ ghost use mathlib.Core.Path.{_≡_};
 ghost use mathlib.Core.Bool.{false};
 ghost use Prim.Native.Nat.{ℕ, _+_, _*_, _%_, _<_, _≤_};
 ghost use Rattle.std.specs.Options.{Cases as BySome};
-ghost use Rattle.std.specs.Orderings.{Decides};
+ghost use Rattle.std.specs.Orderings.{When};
 ghost use Rattle.arithmetic.specs.Divisors.{Greatest, gcd};
 ghost use Rattle.arithmetic.specs.Entries.{endless, Overlapping, Overlapping-itself};
 ghost use Rattle.arithmetic.specs.Laws.{apart as apart?, gap as gap-of};
@@ -26,18 +26,27 @@ pub fn overlap(a: &Entry, b: &Entry) -> Option<OccurrencePair>
 pub fn overlaps_itself(a: &Entry) -> Option<OccurrencePair>
     ensures { λ r. ⌜ BySome r (Never-itself (endless (now (a .entry)))) (Overlapping-itself (endless (now (a .entry)))) ⌝ }
 {
-    if a.span > a.repeat {
-        Some(OccurrencePair { first: 0, second: 1 })
+    if outlasts_repeat(a) {
+        Some(OccurrencePair {
+            first: 0,
+            second: 1,
+        })
     } else {
         None
     }
 }
 
+// Whether an occurrence still lasts when the next one begins. If not, no two overlap.
+fn outlasts_repeat(a: &Entry) -> bool
+    ensures { λ r. ⌜ When r (Overlapping-itself (endless (now (a .entry))) (record { first = 0; second = 1 })) (Never-itself (endless (now (a .entry)))) ⌝ }
+{
+    a.span > a.repeat
+}
+
 // Whether no two occurrences overlap: modulo the divisor of the repeats, `b` starts no sooner than `a` ends, and ends
 // no later than `a` starts again.
 fn apart(a: &Entry, b: &Entry) -> bool
-    ensures test { λ r. ⌜ r ≡ apart? (endless (now (a .entry))) (endless (now (b .entry))) ⌝ }
-    ensures decides { λ r. ⌜ Decides r (Never (endless (now (a .entry))) (endless (now (b .entry)))) ⌝ }
+    ensures { λ r. ⌜ When r (Never (endless (now (a .entry))) (endless (now (b .entry)))) (apart? (endless (now (a .entry))) (endless (now (b .entry))) ≡ false) ⌝ }
 {
     let g = shared_repeat(a, b);
     let x = gap(g, a, b);
@@ -70,9 +79,19 @@ fn meet(a: &Entry, b: &Entry) -> OccurrencePair
     let g = shared_repeat(a, b);
     let x = gap(g, a, b);
     if x < a.span as u64 {
-        meeting(a.repeat as u64, a.start as u64 + x, b.repeat as u64, b.start as u64)
+        meeting(
+            a.repeat as u64,
+            a.start as u64 + x,
+            b.repeat as u64,
+            b.start as u64,
+        )
     } else {
-        meeting(a.repeat as u64, a.start as u64, b.repeat as u64, b.start as u64 + (g - x))
+        meeting(
+            a.repeat as u64,
+            a.start as u64,
+            b.repeat as u64,
+            b.start as u64 + (g - x),
+        )
     }
 }
 
