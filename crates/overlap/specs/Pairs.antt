@@ -1,0 +1,22 @@
+-- A pair of entries, from its six figures.
+use mathlib.Core.List.{List}
+use Prim.Native.Nat.{ℕ}
+use lib.ListN.{getD}
+use Rattle.arithmetic.specs.Entries.{Made, Refused as Entry-refused}
+use Rattle.overlap.specs.declared.fault.Limits.{Limits}
+use Rattle.overlap.specs.declared.fault.Which.{Which}
+use Rattle.overlap.specs.declared.fault.Which.the-variants.{First, Second}
+use Rattle.overlap.specs.declared.pair.Pair.{Pair}
+
+-- Both entries have their figures.
+pub record Paired (f : List ℕ) (p : Pair) : Type 0 where
+  pub first : Made (getD f 0 0) (getD f 1 0) (getD f 2 0) (p .first)
+  pub second : Made (getD f 3 0) (getD f 4 0) (getD f 5 0) (p .second)
+
+-- The first entry is refused, or the second.
+abbrev pub Refused : List ℕ → Limits → Type 0
+Refused f x =
+    elim (x .which) [
+      | First ↦ Entry-refused (getD f 0 0) (getD f 1 0) (getD f 2 0) (x .figure)
+      | Second ↦ Entry-refused (getD f 3 0) (getD f 4 0) (getD f 5 0) (x .figure)
+    ]
