@@ -11,11 +11,20 @@ use Rattle.arithmetic.specs.Occurrences.{Repeating, Overlap}
 abbrev pub endless : Entry → Repeating
 endless e = record { start = e .start; repeat = e .repeat; span = e .span }
 
+-- the limits of an entry's figures
+pub record Within (start repeat span : ℕ) : Type 0 where
+  pub early : start ≤ 100000000
+  pub repeats : 0 < repeat
+  pub often : repeat ≤ 64000000
+  pub lasts : 0 < span
+  pub short : span ≤ 1000000
+
 -- The entry has these figures. They are within their limits, since the type of an entry keeps them.
 pub record Made (start repeat span : ℕ) (e : Entry) : Type 0 where
   pub same-start : e .start ≡ start
   pub same-repeat : e .repeat ≡ repeat
   pub same-span : e .span ≡ span
+  pub within : Within start repeat span
 
 abbrev pub Outside : ℕ → ℕ → Type 0
 Outside most n = (n ≡ 0) ⊎ (most < n)

@@ -6,6 +6,7 @@ mod figures;
 mod laws;
 mod overlaps;
 mod pair;
+mod progressions;
 
 pub use division::divide_up;
 pub use entry::Entry;

@@ -2,18 +2,17 @@
 // repeats decides, and the extended algorithm names occurrences that overlap.
 ghost use mathlib.Core.Path.{_≡_};
 ghost use mathlib.Core.Bool.{false};
-ghost use Prim.Native.Nat.{ℕ, _+_, _*_, _%_, _<_, _≤_};
+ghost use Prim.Native.Nat.{ℕ, _<_, _≤_};
 ghost use Rattle.std.specs.Options.{Cases as BySome};
 ghost use Rattle.std.specs.Orderings.{When};
-ghost use Rattle.arithmetic.specs.Divisors.{Greatest, gcd};
+ghost use Rattle.arithmetic.specs.Divisors.{gcd};
 ghost use Rattle.arithmetic.specs.Entries.{endless, Overlapping, Overlapping-itself};
 ghost use Rattle.arithmetic.specs.Laws.{apart as apart?, gap as gap-of};
-ghost use Rattle.arithmetic.specs.Meetings.{Agree, Meet};
 ghost use Rattle.arithmetic.specs.Occurrences.{Never, Never-itself};
-use crate::division::rounded_up;
 use crate::entry::Entry;
 use crate::euclid;
 use crate::pair::OccurrencePair;
+use crate::progressions::meeting;
 
 // Occurrences of `a` and `b` that overlap; none exactly when no two of them do, without end in time.
 pub fn overlap(a: &Entry, b: &Entry) -> Option<OccurrencePair>
@@ -92,43 +91,5 @@ fn meet(a: &Entry, b: &Entry) -> OccurrencePair
             b.repeat as u64,
             b.start as u64 + (g - x),
         )
-    }
-}
-
-// The steps after which two progressions that agree modulo the divisor of their steps, one from `a` on by `p` and one
-// from `b` on by `q`, are first at the same number.
-fn meeting(p: u64, a: u64, q: u64, b: u64) -> OccurrencePair
-    requires { ⌜ Agree p a q b ⌝ }
-    ensures { λ r. ⌜ Meet p a q b (r .first) (r .second) ⌝ }
-{
-    let inverse = invert(p, q);
-    let round = q / inverse.divisor;
-    let apart = (b + (q - a % q)) % q;
-    let least = apart / inverse.divisor * inverse.factor % round;
-    let behind = b.saturating_sub(a + least * p);
-    let first = least + round * rounded_up(behind, round * p);
-    OccurrencePair {
-        first,
-        second: (a + first * p - b) / q,
-    }
-}
-
-#[derive(Clone, Copy)]
-struct Inverse {
-    divisor: u64,
-    factor: u64,
-}
-
-// The greatest common divisor, and a factor that takes `a` to it modulo `b`.
-fn invert(a: u64, b: u64) -> Inverse
-    requires { ⌜ 0 < b ⌝ }
-    ensures greatest { λ r. ⌜ Greatest a b (r .divisor) ⌝ }
-    ensures solves { λ r. ⌜ (a * r .factor) % b ≡ r .divisor % b ⌝ }
-    ensures bound { λ r. ⌜ r .factor ≤ b ⌝ }
-{
-    let r = euclid::extended_gcd(a, b);
-    Inverse {
-        divisor: r.divisor,
-        factor: if r.swapped { b - r.x } else { r.x },
     }
 }

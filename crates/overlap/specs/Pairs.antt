@@ -2,7 +2,7 @@
 use mathlib.Core.List.{List}
 use Prim.Native.Nat.{ℕ}
 use lib.ListN.{getD}
-use Rattle.arithmetic.specs.Entries.{Made, Refused as Entry-refused}
+use Rattle.arithmetic.specs.Entries.{Made, Within, Refused as Entry-refused}
 use Rattle.overlap.specs.declared.fault.Limits.{Limits}
 use Rattle.overlap.specs.declared.fault.Which.{Which}
 use Rattle.overlap.specs.declared.fault.Which.the-variants.{First, Second}
@@ -13,10 +13,10 @@ pub record Paired (f : List ℕ) (p : Pair) : Type 0 where
   pub first : Made (getD f 0 0) (getD f 1 0) (getD f 2 0) (p .first)
   pub second : Made (getD f 3 0) (getD f 4 0) (getD f 5 0) (p .second)
 
--- The first entry is refused, or the second.
+-- The first entry is refused or, where that is within its limits, the second.
 abbrev pub Refused : List ℕ → Limits → Type 0
 Refused f x =
     elim (x .which) [
       | First ↦ Entry-refused (getD f 0 0) (getD f 1 0) (getD f 2 0) (x .figure)
-      | Second ↦ Entry-refused (getD f 3 0) (getD f 4 0) (getD f 5 0) (x .figure)
+      | Second ↦ Within (getD f 0 0) (getD f 1 0) (getD f 2 0) × Entry-refused (getD f 3 0) (getD f 4 0) (getD f 5 0) (x .figure)
     ]

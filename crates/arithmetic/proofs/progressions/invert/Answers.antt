@@ -3,7 +3,7 @@ use mathlib.Core.Path.{_≡_, subst}
 use Prim.Native.Nat.{_-_, _*_, _%_, _≤_}
 use native.Mathlib.Omega.{arith}
 use Rattle.arithmetic.proofs.Factors.{inverse-solves}
-use Rattle.arithmetic.proofs.overlaps.invert.Needs as need
+use Rattle.arithmetic.proofs.progressions.invert.Needs as need
 
 pub returns-then-r : need.returns-then-r
 returns-then-r c =

@@ -6,7 +6,7 @@ use Rattle.arithmetic.specs.Division.{Rounded-up}
 use Rattle.arithmetic.specs.Laws.{gap}
 use Rattle.arithmetic.proofs.Factors.{divisor-is-determined}
 use Rattle.arithmetic.proofs.Meetings as meets
-use Rattle.arithmetic.proofs.overlaps.meeting.Needs as need
+use Rattle.arithmetic.proofs.progressions.meeting.Needs as need
 
 pub div-round : need.div-round
 div-round c = pos-of-dvd-of-pos (c .invert-inverse .ensures .greatest .divides-first) (c .pre .p-positive)
