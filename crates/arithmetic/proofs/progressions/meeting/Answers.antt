@@ -61,7 +61,7 @@ module _ (c : need.After-rounded-up) where
   w = c .rounded-up .result
 
   behind : Rounded-up (b - (a + gap q a b / g * x % (q / g) * p)) (q / g * p) w
-  behind = subst (λ (n : ℕ). Rounded-up n (q / g * p) w) (c .saturating-sub-behind .ensures) (c .rounded-up .ensures)
+  behind = subst (λ (n : ℕ). Rounded-up n (q / g * p) w) (c .saturating-sub-behind .ensures) (c .rounded-up .ensures .least)
 
   few : meets.steps p q g x a b w (c .pre .p-positive) (c .pre .q-positive) (c .invert-inverse .ensures .greatest) ≤ q + b
   few = meets.first-steps-bound p q g x a b w (c .pre .p-positive) (c .pre .q-positive) (c .invert-inverse .ensures .greatest) behind

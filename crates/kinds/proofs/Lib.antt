@@ -1,0 +1,4 @@
+pub mod PartLaws
+pub mod LinkLaws
+pub mod SlotLaws
+pub mod BusLaws

@@ -1,0 +1,9 @@
+pub mod Beside
+pub mod Bus
+pub mod Core
+pub mod Laws
+pub mod Link
+pub mod Parts
+pub mod Relations
+pub mod Slots
+pub mod Smallest
