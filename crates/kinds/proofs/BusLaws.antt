@@ -86,10 +86,12 @@ module _ (k : ℕ) (ns : List ℕ) (d p : ℕ) where
 
   pub step-some : (from r : ℕ) → from ≤ 4000000000 → serves k ns d p ≡ true
       → First-slot (getD ns 0 0) (getD ns 1 0) (getD ns 2 0) from r → Smallest (bus .admits k ns d p) from (Some r)
-  step-some from r low h first =
-      (low, first .onward,
-       sym (admits-is r) ∙ and-from (serves k ns d p) (slot r) h (first .begins),
-       λ s l b. sym (admits-is s) ∙ and-right (serves k ns d p) (slot s) (first .none-before s l b))
+  step-some from r low h first = (
+    low,
+    first .onward,
+    sym (admits-is r) ∙ and-from (serves k ns d p) (slot r) h (first .begins),
+    λ s l b. sym (admits-is s) ∙ and-right (serves k ns d p) (slot s) (first .none-before s l b),
+  )
 
   pub step-none : (from : ℕ) → serves k ns d p ≡ false → Smallest (bus .admits k ns d p) from None
   step-none from h = inr (λ s l. sym (admits-is s) ∙ and-left (serves k ns d p) (slot s) h)

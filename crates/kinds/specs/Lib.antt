@@ -1,6 +1,7 @@
 pub mod Beside
 pub mod Bus
 pub mod Core
+pub mod Figures
 pub mod Laws
 pub mod Link
 pub mod Parts

@@ -86,10 +86,19 @@ pub impl Kind for Bus as BusKind {
     }
 
     fn admits(&self, kind: u16, numbers: [u32; 4], demand: u32, repeat: u32, start: u64) -> bool {
-        serves(kind, numbers, demand, repeat) && begins_slot(numbers[0], numbers[1], numbers[2], start)
+        serves(kind, numbers, demand, repeat)
+            && begins_slot(numbers[0], numbers[1], numbers[2], start)
     }
 
-    fn bars(&self, kind: u16, numbers: [u32; 4], start: u64, sender: u8, other: u64, rival: u8) -> bool {
+    fn bars(
+        &self,
+        kind: u16,
+        numbers: [u32; 4],
+        start: u64,
+        sender: u8,
+        other: u64,
+        rival: u8,
+    ) -> bool {
         if self.sound(kind, numbers) && sender != rival {
             let cycle = numbers[0] as u64;
             let length = numbers[2] as u64;
@@ -101,7 +110,14 @@ pub impl Kind for Bus as BusKind {
 }
 
 pub impl Stepping for Bus as BusStepping {
-    fn step(&self, kind: u16, numbers: [u32; 4], demand: u32, repeat: u32, from: u64) -> Option<u64> {
+    fn step(
+        &self,
+        kind: u16,
+        numbers: [u32; 4],
+        demand: u32,
+        repeat: u32,
+        from: u64,
+    ) -> Option<u64> {
         if from <= STEP_MAX && serves(kind, numbers, demand, repeat) {
             Some(next_slot(numbers[0], numbers[1], numbers[2], from))
         } else {

@@ -26,7 +26,15 @@ pub trait Kind {
         ensures { λ r. ⌜ r ≡ relations (now (self .entry)) .admits kind numbers demand repeat start ⌝ };
 
     // Whether two starts, each with its sender, exclude each other.
-    fn bars(&self, kind: u16, numbers: [u32; 4], start: u64, sender: u8, other: u64, rival: u8) -> bool
+    fn bars(
+        &self,
+        kind: u16,
+        numbers: [u32; 4],
+        start: u64,
+        sender: u8,
+        other: u64,
+        rival: u8,
+    ) -> bool
         ensures { λ r. ⌜ r ≡ relations (now (self .entry)) .bars kind numbers start sender other rival ⌝ };
 }
 

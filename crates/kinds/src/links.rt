@@ -50,13 +50,28 @@ pub impl Kind for Link as LinkKind {
         self.sound(kind, numbers) && demanded(demand) && repeated(repeat)
     }
 
-    fn bars(&self, _kind: u16, _numbers: [u32; 4], _start: u64, _sender: u8, _other: u64, _rival: u8) -> bool {
+    fn bars(
+        &self,
+        _kind: u16,
+        _numbers: [u32; 4],
+        _start: u64,
+        _sender: u8,
+        _other: u64,
+        _rival: u8,
+    ) -> bool {
         false
     }
 }
 
 pub impl Stepping for Link as LinkStepping {
-    fn step(&self, kind: u16, numbers: [u32; 4], demand: u32, repeat: u32, from: u64) -> Option<u64> {
+    fn step(
+        &self,
+        kind: u16,
+        numbers: [u32; 4],
+        demand: u32,
+        repeat: u32,
+        from: u64,
+    ) -> Option<u64> {
         if from <= STEP_MAX && self.admits(kind, numbers, demand, repeat, from) {
             Some(from)
         } else {
