@@ -1,6 +1,3 @@
-pub mod PartLaws
-pub mod LinkLaws
-pub mod SlotLaws
-pub mod BusLaws
 pub mod BesideLaws
 pub mod LastingLaws
+pub mod PartLaws

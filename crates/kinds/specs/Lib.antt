@@ -1,10 +1,5 @@
 pub mod Beside
-pub mod Bus
-pub mod Core
-pub mod Figures
 pub mod Laws
-pub mod Link
 pub mod Parts
 pub mod Relations
-pub mod Slots
 pub mod Smallest

@@ -1,6 +1,7 @@
 // Two kinds side by side: the first answers for the numbers that it knows, the second for the rest.
 ghost use mathlib.Core.Path.{_≡_};
 ghost use Rattle.kinds.specs.Beside.{beside};
+ghost use Rattle.kinds.specs.Smallest.{Smallest};
 use crate::kind::Kind;
 use crate::kind::Stepping;
 
@@ -66,6 +67,26 @@ pub impl<A: Kind, B: Kind> Kind for Beside<A, B> as BesideKind {
     }
 }
 
+impl<A: Stepping, B: Stepping> Beside<A, B> {
+    // The step of the kind that knows the number.
+    fn next_start(
+        &self,
+        kind: u16,
+        numbers: [u32; 4],
+        demand: u32,
+        repeat: u32,
+        from: u64,
+    ) -> Option<u64>
+        ensures { λ r. ⌜ Smallest (beside (A·Kind .relations (now (self .entry) .first)) (B·Kind .relations (now (self .entry) .second)) .admits kind numbers demand repeat) from r ⌝ }
+    {
+        if self.first.known(kind) {
+            self.first.step(kind, numbers, demand, repeat, from)
+        } else {
+            self.second.step(kind, numbers, demand, repeat, from)
+        }
+    }
+}
+
 pub impl<A: Stepping, B: Stepping> Stepping for Beside<A, B> as BesideStepping {
     fn step(
         &self,
@@ -75,10 +96,6 @@ pub impl<A: Stepping, B: Stepping> Stepping for Beside<A, B> as BesideStepping {
         repeat: u32,
         from: u64,
     ) -> Option<u64> {
-        if self.first.known(kind) {
-            self.first.step(kind, numbers, demand, repeat, from)
-        } else {
-            self.second.step(kind, numbers, demand, repeat, from)
-        }
+        self.next_start(kind, numbers, demand, repeat, from)
     }
 }

@@ -1,5 +1,0 @@
-use Rattle.kinds.proofs.BusLaws.{bus-laws}
-use Rattle.kinds.proofs.buses.BusKind.the-impl.Needs as need
-
-pub lawful-law : need.lawful-law
-lawful-law k = bus-laws

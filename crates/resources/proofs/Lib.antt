@@ -1,0 +1,4 @@
+pub mod BusLaws
+pub mod CoreLaws
+pub mod LinkLaws
+pub mod SlotLaws

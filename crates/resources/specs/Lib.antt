@@ -1,0 +1,5 @@
+pub mod Bus
+pub mod Core
+pub mod Figures
+pub mod Link
+pub mod Slots
