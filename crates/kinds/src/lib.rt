@@ -2,6 +2,7 @@
 mod beside;
 mod kind;
 mod laws;
+mod limits;
 
 pub use beside::Beside;
 pub use beside::BesideKind;
@@ -9,3 +10,6 @@ pub use beside::BesideStepping;
 pub use kind::Kind;
 pub use kind::Stepping;
 pub use laws::laws_last;
+pub use limits::STEP_MAX;
+pub use limits::demanded;
+pub use limits::repeated;

@@ -1,4 +1,2 @@
-pub mod BusLaws
 pub mod CoreLaws
 pub mod LinkLaws
-pub mod SlotLaws

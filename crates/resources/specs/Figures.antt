@@ -5,7 +5,7 @@ use mathlib.Core.List.{List, [], _∷_}
 use Prim.Native.Nat.{ℕ}
 use Rattle.std.specs.declared.option.Option.{Option}
 use Rattle.std.specs.declared.option.Option.the-variants.{Some, None}
-use Rattle.resources.specs.Bus.{bus}
+use Rattle.buses.specs.Bus.{bus}
 use Rattle.resources.specs.Link.{link}
 
 -- a link with rate code 2 and overhead 5

@@ -1,10 +1,10 @@
 // Kind 1: a core.
 ghost use Rattle.resources.specs.Core.{core};
-use crate::limits::STEP_MAX;
-use crate::limits::demanded;
-use crate::limits::repeated;
 use kinds::Kind;
+use kinds::STEP_MAX;
 use kinds::Stepping;
+use kinds::demanded;
+use kinds::repeated;
 
 #[derive(Clone, Copy)]
 pub struct Core;

@@ -1,8 +1,6 @@
 // The kinds of resource that ship: cores, links and buses.
-mod buses;
 mod cores;
 mod laws;
-mod limits;
 mod links;
 mod standard;
 

@@ -2,11 +2,11 @@
 ghost use mathlib.Core.Path.{_≡_};
 ghost use Prim.Native.Nat.{ℕ, _^_, _<_, _≤_};
 ghost use Rattle.resources.specs.Link.{link, link-time};
-use crate::limits::STEP_MAX;
-use crate::limits::demanded;
-use crate::limits::repeated;
 use kinds::Kind;
+use kinds::STEP_MAX;
 use kinds::Stepping;
+use kinds::demanded;
+use kinds::repeated;
 
 #[derive(Clone, Copy)]
 pub struct Link;

@@ -1,11 +1,11 @@
 // The kinds that ship.
 ghost use mathlib.Core.Path.{_≡_};
-use crate::buses::Bus;
-use crate::buses::BusKind;
 use crate::cores::Core;
 use crate::cores::CoreKind;
 use crate::links::Link;
 use crate::links::LinkKind;
+use buses::Bus;
+use buses::BusKind;
 use kinds::Beside;
 use kinds::BesideKind;
 

@@ -8,8 +8,8 @@ use native.Mathlib.Omega.{arith}
 use lib.Dec.{eqb, leb, ltb}
 use Rattle.std.proofs.shelf.Tests.{and-parts, and-from, or-cases, or-left, or-right, eqb-true, eq-eqb, ne-eqb, ltb-true, lt-ltb, cases-lt, cases-bool}
 use Rattle.arithmetic.specs.Division.{Rounded-up, divided-up}
-use Rattle.resources.specs.Bus.{at-slot}
-use Rattle.resources.specs.Slots.{First-slot}
+use Rattle.buses.specs.Bus.{at-slot}
+use Rattle.buses.specs.Slots.{First-slot}
 
 same-tests : (a b : Bool) → (a ≡ true → b ≡ true) → (b ≡ true → a ≡ true) → a ≡ b
 same-tests true b f g = sym (f refl)

@@ -1,6 +1,6 @@
 use mathlib.Core.Path.{sym}
-use Rattle.resources.proofs.BusLaws.{step-some, step-none}
-use Rattle.resources.proofs.buses.next_start.Needs as need
+use Rattle.buses.proofs.BusLaws.{step-some, step-none}
+use Rattle.buses.proofs.bus.next_start.Needs as need
 
 pub returns-then-serves : need.returns-then-serves
 returns-then-serves c =

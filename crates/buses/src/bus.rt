@@ -2,15 +2,15 @@
 ghost use mathlib.Core.Path.{_≡_};
 ghost use Prim.Native.Nat.{ℕ, _*_, _≤_};
 ghost use lib.ListN.{getD};
-ghost use Rattle.resources.specs.Bus.{bus, bus-parts, bus-right, at-slot};
+ghost use Rattle.buses.specs.Bus.{bus, bus-parts, bus-right, at-slot};
 ghost use Rattle.kinds.specs.Parts.{takes as takes?};
-ghost use Rattle.resources.specs.Slots.{First-slot, serves as serves?};
+ghost use Rattle.buses.specs.Slots.{First-slot, serves as serves?};
 ghost use Rattle.kinds.specs.Smallest.{Smallest};
-use crate::limits::STEP_MAX;
-use crate::limits::demanded;
-use crate::limits::repeated;
 use kinds::Kind;
+use kinds::STEP_MAX;
 use kinds::Stepping;
+use kinds::demanded;
+use kinds::repeated;
 
 #[derive(Clone, Copy)]
 pub struct Bus;

@@ -1,6 +1,6 @@
 use Rattle.arithmetic.proofs.Divisions.{rounded-up}
-use Rattle.resources.proofs.SlotLaws.{cycle-positive, same-cycle, next-cycle}
-use Rattle.resources.proofs.buses.next_slot.Needs as need
+use Rattle.buses.proofs.SlotLaws.{cycle-positive, same-cycle, next-cycle}
+use Rattle.buses.proofs.bus.next_slot.Needs as need
 
 pub rem-place : need.rem-place
 rem-place c = cycle-positive (c .args .cycle) (c .args .slots) (c .args .length) (c .args .from) (c .pre .cycle-holds) (c .pre .slots-low) (c .pre .length-low)

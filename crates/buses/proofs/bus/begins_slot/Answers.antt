@@ -3,8 +3,8 @@ use mathlib.Core.Bool.{true, false, _&&_}
 use Prim.Native.Nat.{_/_, _%_}
 use lib.Dec.{eqb, ltb}
 use Rattle.std.proofs.shelf.Tests.{eq-eqb}
-use Rattle.resources.proofs.SlotLaws.{slot-test, and-failed}
-use Rattle.resources.proofs.buses.begins_slot.Needs as need
+use Rattle.buses.proofs.SlotLaws.{slot-test, and-failed}
+use Rattle.buses.proofs.bus.begins_slot.Needs as need
 
 pub returns-then-place-length-eq0 : need.returns-then-place-length-eq0
 returns-then-place-length-eq0 c =

@@ -12,10 +12,10 @@ use Rattle.std.proofs.shelf.Tests.{and-parts, and-from, and-left, and-right, eq
 use Rattle.std.proofs.shelf.Ways.{tells}
 use Rattle.std.specs.declared.option.Option.{Option}
 use Rattle.std.specs.declared.option.Option.the-variants.{Some, None}
-use Rattle.resources.specs.Bus.{bus, bus-parts, bus-right, at-slot, same-slot}
+use Rattle.buses.specs.Bus.{bus, bus-parts, bus-right, at-slot, same-slot}
 use Rattle.kinds.specs.Laws.{Laws}
 use Rattle.kinds.specs.Parts.{Lawful, sound, takes, demanded, repeated}
-use Rattle.resources.specs.Slots.{First-slot, serves}
+use Rattle.buses.specs.Slots.{First-slot, serves}
 use Rattle.kinds.specs.Smallest.{Smallest}
 use Rattle.kinds.proofs.PartLaws.{kind-laws, under}
 

@@ -5,7 +5,7 @@ use mathlib.Core.List.{List}
 use Prim.Native.Nat.{ℕ, _%_, _≤_, _<_}
 use lib.Dec.{eqb}
 use lib.ListN.{getD}
-use Rattle.resources.specs.Bus.{bus-parts, at-slot}
+use Rattle.buses.specs.Bus.{bus-parts, at-slot}
 use Rattle.kinds.specs.Parts.{takes, repeated}
 
 -- the demand is taken, and the repeat is within its limits and a multiple of the cycle

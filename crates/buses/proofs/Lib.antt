@@ -1,0 +1,2 @@
+pub mod BusLaws
+pub mod SlotLaws
