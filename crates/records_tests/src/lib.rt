@@ -1,0 +1,5 @@
+// Tests of crates `fields` and `records`: worked bytes, and faults in their order.
+#[cfg(test)]
+mod bytes;
+#[cfg(test)]
+mod faults;
