@@ -2,7 +2,7 @@
 use mathlib.Core.Path.{_≡_, sym, subst, _∙_}
 use mathlib.Core.Bool.{Bool, true, false, _&&_}
 use mathlib.Core.Logic.{_⊎_, inl, inr, ⊎-elim}
-use Prim.Native.Nat.{ℕ, zero, suc, _%_, _≤_, _<_, _∣_, max}
+use Prim.Native.Nat.{ℕ, zero, suc, _%_, _≤_, _<_, max}
 use native.Mathlib.Nat.{dvd-refl, dvd-zero, dvd-mod-iff, dvd-antisymm, dvd-of-mod-eq-zero, mod-eq-zero-of-dvd, le-of-dvd, pos-of-dvd-of-pos}
 use native.Mathlib.Omega.{arith}
 use lib.Dec.{eqb}
@@ -57,6 +57,3 @@ unfolding gcd
 gcd-of zero zero g h = sym (dvd-antisymm (dvd-zero g) (h .greatest 0 (dvd-zero 0) (dvd-zero 0)))
 gcd-of zero (suc b) g h = first-below zero (suc b) g (max zero (suc b)) (pos-of-dvd-of-pos (h .divides-second) (omega arith)) (omega (arith, le-of-dvd {n = suc b} (omega arith) (h .divides-second))) h
 gcd-of (suc a) b g h = first-below (suc a) b g (max (suc a) b) (pos-of-dvd-of-pos (h .divides-first) (omega arith)) (omega (arith, le-of-dvd {n = suc a} (omega arith) (h .divides-first))) h
-
-pub greatest-unique : (a b g h : ℕ) → Greatest a b g → Greatest a b h → g ≡ h
-greatest-unique a b g h p q = sym (gcd-of a b g p) ∙ gcd-of a b h q

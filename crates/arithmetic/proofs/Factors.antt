@@ -8,7 +8,7 @@ use native.Mathlib.Omega.{arith}
 use Rattle.std.specs.Orderings.{When}
 use Rattle.std.proofs.shelf.Tests.{cases-lt}
 use Rattle.arithmetic.specs.declared.euclid.Bezout.{Bezout}
-use Rattle.arithmetic.specs.Divisors.{Greatest, gcd, Determined, Divisor-is-determined}
+use Rattle.arithmetic.specs.Divisors.{Greatest, Divisor-is-determined}
 use Rattle.arithmetic.specs.Factors.{Identity, Reduced}
 use Rattle.arithmetic.proofs.Divisors.{greatest-zero, greatest-step, gcd-of}
 

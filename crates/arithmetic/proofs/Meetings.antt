@@ -1,12 +1,12 @@
 -- Where two progressions meet, as the factor of Bézout's identity names it.
-use mathlib.Core.Path.{_≡_, refl, sym, ap, _∙_}
+use mathlib.Core.Path.{_≡_, sym, ap, _∙_}
 use mathlib.Core.Logic.{⊎-elim}
-use Prim.Native.Nat.{ℕ, zero, suc, _+_, _-_, _*_, _/_, _%_, _<_, _≤_, _∣_}
-use native.Mathlib.Nat.{mod-add-div, mod-lt, mul-le-mul-left, mul-le-mul-right, mul-le-mul, add-mul-mod-self-right, mul-mod-left, mul-pos, div-mul-cancel, pos-of-dvd-of-pos}
+use Prim.Native.Nat.{ℕ, zero, suc, _+_, _-_, _*_, _/_, _%_, _<_, _≤_}
+use native.Mathlib.Nat.{mod-add-div, mod-lt, mul-le-mul-left, mul-le-mul-right, mul-le-mul, add-mul-mod-self-right, mul-mod-left, div-mul-cancel, pos-of-dvd-of-pos}
 use native.Mathlib.Omega.{arith}
 use Rattle.std.proofs.shelf.Tests.{cases-lt}
 use Rattle.arithmetic.specs.Division.{Rounded-up}
-use Rattle.arithmetic.specs.Divisors.{Greatest, gcd}
+use Rattle.arithmetic.specs.Divisors.{Greatest}
 use Rattle.arithmetic.specs.Laws.{gap}
 use Rattle.arithmetic.specs.Meetings.{Meet}
 

@@ -3,7 +3,7 @@ use mathlib.Core.Path.{_≡_, refl, sym, ap, subst, _∙_}
 use mathlib.Core.Bool.{Bool, true, false, _&&_}
 use mathlib.Core.Logic.{_⊎_, ⊎-elim}
 use Prim.Native.Nat.{ℕ, _+_, _-_, _*_, _%_, _<_, _≤_}
-use native.Mathlib.Nat.{mul-le-mul-right, mod-lt}
+use native.Mathlib.Nat.{mul-le-mul-right}
 use native.Mathlib.Omega.{arith}
 use lib.Dec.{leb, ltb}
 use Rattle.std.specs.Orderings.{When}
@@ -14,9 +14,8 @@ use Rattle.arithmetic.specs.Divisors.{gcd}
 use Rattle.arithmetic.specs.Entries.{endless, Overlapping, Overlapping-itself}
 use Rattle.arithmetic.specs.Laws.{Proper, gap, apart}
 use Rattle.arithmetic.specs.Meetings.{Agree, Meet}
-use Rattle.arithmetic.specs.Occurrences.{Repeating, begin, end, Overlap, Never, Never-itself}
+use Rattle.arithmetic.specs.Occurrences.{begin, Never, Never-itself}
 use Rattle.arithmetic.proofs.Meetings.{gap-is, multiples-rest}
-use Rattle.arithmetic.proofs.Windows.{gcd-positive}
 use Rattle.arithmetic.proofs.Tests.{finite-test-decides}
 
 pub proper : (e : Entry) → Proper (endless e)

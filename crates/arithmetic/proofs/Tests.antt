@@ -1,15 +1,15 @@
 -- The finite test of an overlap, and what follows of moving on and of rests.
-use mathlib.Core.Path.{_≡_, sym, ap, _∙_}
+use mathlib.Core.Path.{_≡_, ap, _∙_}
 use mathlib.Core.Bool.{true}
 use mathlib.Core.Logic.{_⊎_, inl, inr, ⊎-elim}
-use Prim.Native.Nat.{ℕ, zero, suc, _+_, _-_, _*_, _/_, _%_, _<_, _≤_, max}
+use Prim.Native.Nat.{ℕ, _+_, _-_, _*_, _/_, _%_, _<_, _≤_, max}
 use native.Mathlib.Nat.{mod-lt, mod-eq-of-lt, mod-add-div, mul-le-mul-right, add-mul-mod-self-right, div-mul-cancel, lt-of-mul-lt-mul-right}
 use native.Mathlib.Omega.{arith}
 use lib.Dec.{leb}
 use Rattle.std.proofs.shelf.Tests.{cases-lt, and-parts, and-from, leb-true, le-leb}
 use Rattle.arithmetic.specs.Divisors.{Greatest, gcd}
-use Rattle.arithmetic.specs.Laws.{Proper, every, gap, apart, moved-on, Common, Rests-meet, Apart-is-one-after-the-other, Finite-test-decides, Moving-on-alters-nothing, Rests-meet-by-the-divisor}
-use Rattle.arithmetic.specs.Occurrences.{Repeating, begin, end, Overlap, Ever, Never}
+use Rattle.arithmetic.specs.Laws.{every, gap, apart, moved-on, Common, Apart-is-one-after-the-other, Finite-test-decides, Moving-on-alters-nothing, Rests-meet-by-the-divisor}
+use Rattle.arithmetic.specs.Occurrences.{begin, end, Overlap, Ever, Never}
 use Rattle.arithmetic.proofs.Meetings.{gap-is, multiples-rest}
 use Rattle.arithmetic.proofs.Windows.{gcd-greatest, gcd-positive, met, windows-repeat-after-the-divisor}
 
@@ -43,12 +43,6 @@ clear g s u t v d m n M N k is dg ud vd a b c e =
 pub finite-test-decides : Finite-test-decides
 finite-test-decides x y px py = (there, back)
   where
-    g : ℕ
-    g = gcd (x .repeat) (y .repeat)
-
-    d : ℕ
-    d = gap (gcd (x .repeat) (y .repeat)) (x .start) (y .start)
-
     there : apart x y ≡ true → Never x y
     there e m n o =
         let g : ℕ = gcd (x .repeat) (y .repeat) in

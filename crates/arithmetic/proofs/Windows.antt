@@ -1,21 +1,17 @@
 -- Overlaps over all occurrences: by the divisor of the repeats, by a finite test, and one repeat later.
-use mathlib.Core.Path.{_≡_, refl, sym, ap, subst, _∙_}
-use mathlib.Core.Bool.{Bool, true, false, _&&_}
-use mathlib.Core.Logic.{_⊎_, inl, inr, ⊎-elim, _↔_}
-use Prim.Native.Nat.{ℕ, zero, suc, _+_, _-_, _*_, _/_, _%_, _<_, _≤_, _∣_, min}
-use native.Mathlib.Nat.{mod-lt, mod-eq-of-lt, mod-add-div, mul-le-mul-right, mul-pos, add-mul-mod-self-right, div-mul-cancel, pos-of-dvd-of-pos, lt-of-mul-lt-mul-right}
+use mathlib.Core.Path.{_≡_, refl, sym, ap, subst}
+use mathlib.Core.Logic.{_⊎_, ⊎-elim}
+use Prim.Native.Nat.{ℕ, _+_, _-_, _*_, _/_, _%_, _<_, _≤_, min}
+use native.Mathlib.Nat.{mul-pos, div-mul-cancel, pos-of-dvd-of-pos}
 use native.Mathlib.Omega.{arith}
-use lib.Dec.{leb}
-use Rattle.std.specs.Orderings.{Decides}
-use Rattle.std.proofs.shelf.Tests.{cases-lt, and-parts, and-from, leb-true, le-leb}
+use Rattle.std.proofs.shelf.Tests.{cases-lt}
 use Rattle.arithmetic.specs.Divisors.{Greatest, gcd}
-use Rattle.arithmetic.specs.Factors.{Identity}
-use Rattle.arithmetic.specs.Laws.{Proper, every, gap, apart, moved-on, Early, Common, Rests-meet, Overlaps-come-early, Apart-is-one-after-the-other, Windows-repeat-after-the-divisor, Finite-test-decides, Moving-on-alters-nothing, Rests-meet-by-the-divisor}
+use Rattle.arithmetic.specs.Laws.{Proper, every, gap, Early, Overlaps-come-early, Windows-repeat-after-the-divisor}
 use Rattle.arithmetic.specs.Meetings.{Meet}
-use Rattle.arithmetic.specs.Occurrences.{Repeating, begin, end, Occupies, Overlap, Ever, Never}
+use Rattle.arithmetic.specs.Occurrences.{Repeating, begin, Overlap, Ever}
 use Rattle.arithmetic.proofs.Divisions.{rounded-up}
 use Rattle.arithmetic.proofs.Factors.{identity, inverse, inverse-solves, divisor-is-determined}
-use Rattle.arithmetic.proofs.Meetings.{gap-is, multiples-rest, least, steps, other-steps, quotient-positive, meeting}
+use Rattle.arithmetic.proofs.Meetings.{multiples-rest, steps, other-steps, quotient-positive, meeting}
 
 pub gcd-greatest : (p q : ℕ) → Greatest p q (gcd p q)
 gcd-greatest p q = divisor-is-determined p q .exists

@@ -1,6 +1,6 @@
 -- The greatest common divisor, by what it is.
 use mathlib.Core.Path.{_≡_}
-use mathlib.Core.Bool.{Bool, cond, _&&_}
+use mathlib.Core.Bool.{cond, _&&_}
 use Prim.Native.Nat.{ℕ, zero, suc, _%_, _∣_, max}
 use lib.Dec.{eqb}
 

@@ -1,6 +1,6 @@
 // Division rounded up.
 ghost use mathlib.Core.Path.{_≡_};
-ghost use Prim.Native.Nat.{ℕ, _<_};
+ghost use Prim.Native.Nat.{_<_};
 ghost use Rattle.std.specs.NonZero.{of-u64};
 ghost use Rattle.arithmetic.specs.Division.{Rounded-up, divided-up};
 use std::num::NonZeroU64;

@@ -1,5 +1,5 @@
 // An entry of a timing table.
-ghost use Prim.Native.Nat.{ℕ, _<_, _≤_};
+ghost use Prim.Native.Nat.{_<_, _≤_};
 
 // It starts at `start` and again after each `repeat`, without end, and lasts for `span`. All in microseconds.
 #[derive(Clone, Copy)]

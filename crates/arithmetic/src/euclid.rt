@@ -1,6 +1,4 @@
 // Euclid's algorithm, plain and extended.
-ghost use mathlib.Core.Path.{_≡_};
-ghost use Prim.Native.Nat.{ℕ};
 ghost use Rattle.arithmetic.specs.Divisors.{Greatest};
 ghost use Rattle.arithmetic.specs.Factors.{Identity, Reduced};
 

@@ -1,6 +1,6 @@
 // Making an entry, and reading it.
 ghost use mathlib.Core.Path.{_≡_};
-ghost use Prim.Native.Nat.{ℕ, _+_, _*_};
+ghost use Prim.Native.Nat.{_+_, _*_};
 ghost use Rattle.std.specs.Results.{Cases as ByOk};
 ghost use Rattle.arithmetic.specs.Entries.{Made, Refused, endless};
 ghost use Rattle.arithmetic.specs.Occurrences.{begin};

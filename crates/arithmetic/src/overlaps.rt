@@ -2,7 +2,7 @@
 // repeats decides, and the extended algorithm names occurrences that overlap.
 ghost use mathlib.Core.Path.{_≡_};
 ghost use mathlib.Core.Bool.{false};
-ghost use Prim.Native.Nat.{ℕ, _<_, _≤_};
+ghost use Prim.Native.Nat.{_<_, _≤_};
 ghost use Rattle.std.specs.Options.{Cases as BySome};
 ghost use Rattle.std.specs.Orderings.{When};
 ghost use Rattle.arithmetic.specs.Divisors.{gcd};

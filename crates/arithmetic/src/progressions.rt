@@ -1,6 +1,6 @@
 // Where two progressions of whole numbers meet.
 ghost use mathlib.Core.Path.{_≡_};
-ghost use Prim.Native.Nat.{ℕ, _*_, _%_, _<_, _≤_};
+ghost use Prim.Native.Nat.{_*_, _%_, _<_, _≤_};
 ghost use Rattle.arithmetic.specs.Divisors.{Greatest};
 ghost use Rattle.arithmetic.specs.Meetings.{Agree, Meet};
 use crate::division::rounded_up;

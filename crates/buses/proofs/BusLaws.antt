@@ -2,19 +2,17 @@
 use mathlib.Core.Path.{_≡_, refl, sym, ap, _∙_}
 use mathlib.Core.Bool.{Bool, true, false, _&&_, _||_, not}
 use mathlib.Core.List.{List}
-use mathlib.Core.Logic.{inr}
-use Prim.Native.Nat.{ℕ, zero, suc, _+_, _*_, _/_, _%_, _≤_, _<_}
+use Prim.Native.Nat.{ℕ, zero, suc, _+_, _*_, _/_, _%_, _≤_}
 use native.Mathlib.Nat.{mod-add-div, add-mul-mod-self-left, le-mul-of-pos-right, mul-comm}
 use native.Mathlib.Omega.{arith}
-use lib.Dec.{eqb, leb}
+use lib.Dec.{eqb}
 use lib.ListN.{getD}
-use Rattle.std.proofs.shelf.Tests.{and-parts, and-from, and-left, and-right, eqb-true}
+use Rattle.std.proofs.shelf.Tests.{and-parts, and-from, and-right, eqb-true}
 use Rattle.std.proofs.shelf.Ways.{tells}
-use Rattle.std.specs.declared.option.Option.{Option}
-use Rattle.std.specs.declared.option.Option.the-variants.{Some, None}
-use Rattle.buses.specs.Bus.{bus, bus-parts, bus-right, at-slot, same-slot}
+use Rattle.std.specs.declared.option.Option.the-variants.{Some}
+use Rattle.buses.specs.Bus.{bus, bus-parts, bus-right, at-slot}
 use Rattle.kinds.specs.Laws.{Laws}
-use Rattle.kinds.specs.Parts.{Lawful, sound, takes, demanded, repeated}
+use Rattle.kinds.specs.Parts.{Lawful, takes, repeated}
 use Rattle.buses.specs.Slots.{First-slot, serves}
 use Rattle.kinds.specs.Smallest.{Smallest}
 use Rattle.kinds.proofs.PartLaws.{kind-laws, under}
@@ -65,12 +63,6 @@ bus-lawful = record {
 pub bus-laws : Laws bus
 bus-laws = kind-laws bus-parts bus-lawful
 
-pub served-right : (k : ℕ) (ns : List ℕ) (d p : ℕ) → serves k ns d p ≡ true → Right (getD ns 0 0) (getD ns 1 0) (getD ns 2 0)
-served-right k ns d p h =
-    let taken = and-parts (takes bus-parts k ns d) (repeated p && eqb (p % getD ns 0 0) 0) h .0 in
-    let right = and-parts (eqb k 3) (bus-parts .right ns) (and-parts (sound bus-parts k ns) (demanded d && bus-parts .carries ns d) taken .0) .1 in
-    is-right (getD ns 0 0) (getD ns 1 0) (getD ns 2 0) (getD ns 3 0) right
-
 regrouped : (a b c e : Bool) → ((a && (b && c)) && e) ≡ (a && (b && (c && e)))
 regrouped true true c e = refl
 regrouped true false c e = refl
@@ -92,6 +84,3 @@ module _ (k : ℕ) (ns : List ℕ) (d p : ℕ) where
     sym (admits-is r) ∙ and-from (serves k ns d p) (slot r) h (first .begins),
     λ s l b. sym (admits-is s) ∙ and-right (serves k ns d p) (slot s) (first .none-before s l b),
   )
-
-  pub step-none : (from : ℕ) → serves k ns d p ≡ false → Smallest (bus .admits k ns d p) from None
-  step-none from h = inr (λ s l. sym (admits-is s) ∙ and-left (serves k ns d p) (slot s) h)

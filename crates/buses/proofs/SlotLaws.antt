@@ -1,13 +1,13 @@
 -- Beginnings of slots: the test of one, and the first from a start on.
 use mathlib.Core.Path.{_≡_, refl, sym, ap, _∙_}
-use mathlib.Core.Bool.{Bool, true, false, _&&_, _||_}
-use mathlib.Core.Logic.{_⊎_, inl, inr, ⊎-elim}
+use mathlib.Core.Bool.{Bool, true, false, _&&_}
+use mathlib.Core.Logic.{_⊎_, ⊎-elim}
 use Prim.Native.Nat.{ℕ, zero, suc, _+_, _-_, _*_, _/_, _%_, _≤_, _<_}
 use native.Mathlib.Nat.{mul-add-mod-self-left, mod-eq-of-lt, mod-lt, mod-add-div, mod-add-div', mul-mod-left, mul-div-cancel, mul-le-mul-right}
 use native.Mathlib.Omega.{arith}
-use lib.Dec.{eqb, leb, ltb}
-use Rattle.std.proofs.shelf.Tests.{and-parts, and-from, or-cases, or-left, or-right, eqb-true, eq-eqb, ne-eqb, ltb-true, lt-ltb, cases-lt, cases-bool}
-use Rattle.arithmetic.specs.Division.{Rounded-up, divided-up}
+use lib.Dec.{eqb, ltb}
+use Rattle.std.proofs.shelf.Tests.{and-parts, and-from, or-cases, or-left, or-right, eqb-true, eq-eqb, ne-eqb, ltb-true, lt-ltb, cases-lt}
+use Rattle.arithmetic.specs.Division.{Rounded-up}
 use Rattle.buses.specs.Bus.{at-slot}
 use Rattle.buses.specs.Slots.{First-slot}
 

@@ -1,7 +1,6 @@
 -- Kind 3, a bus: n0 is its cycle (100 to 100,000), n1 its number of slots (1 to 1,023), n2 the length of a slot (at least 1),
 -- n3 its payload (1 to 254 bytes); the slots fit into the cycle.
-use mathlib.Core.Bool.{Bool, true, false, _&&_, _||_, not}
-use mathlib.Core.List.{List}
+use mathlib.Core.Bool.{Bool, false, _&&_, _||_, not}
 use Prim.Native.Nat.{ℕ, zero, suc, _*_, _/_, _%_}
 use lib.Dec.{eqb, leb}
 use lib.ListN.{getD}

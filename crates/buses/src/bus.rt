@@ -1,7 +1,6 @@
 // Kind 3: a bus.
 ghost use mathlib.Core.Path.{_≡_};
-ghost use Prim.Native.Nat.{ℕ, _*_, _≤_};
-ghost use lib.ListN.{getD};
+ghost use Prim.Native.Nat.{_*_, _≤_};
 ghost use Rattle.buses.specs.Bus.{bus, bus-parts, bus-right, at-slot};
 ghost use Rattle.kinds.specs.Parts.{takes as takes?};
 ghost use Rattle.buses.specs.Slots.{First-slot, serves as serves?};

@@ -1,7 +1,7 @@
 -- Numbers of one, two and four bytes as pieces of a list of bytes, and back.
-use mathlib.Core.Path.{_≡_, refl, sym, ap, _∙_}
+use mathlib.Core.Path.{_≡_, sym, ap, _∙_}
 use mathlib.Core.List.{List, [], _∷_, _++_, append-nil}
-use Prim.Native.Nat.{ℕ, _+_, _*_, _/_, _%_, _^_, _≤_, _<_}
+use Prim.Native.Nat.{ℕ, _+_, _*_, _/_, _%_, _^_, _<_}
 use native.Mathlib.Numerals.{add-one}
 use native.Mathlib.Omega.{arith}
 use lib.ListN.{length, getD, drop}
@@ -12,9 +12,6 @@ use Rattle.std.proofs.shelf.Lists.{drop-all}
 use Rattle.fields.specs.Bytes.{two-at, four-at, two-of, four-of}
 
 -- the bytes of a number make it again
-pub two-back : (n : ℕ) → n < 2 ^ 16 → n / 256 % 256 * 256 + n % 256 ≡ n
-two-back n h = grind arith
-
 pub four-back : (n : ℕ) → n < 2 ^ 32 → n / 16777216 % 256 * 16777216 + n / 65536 % 256 * 65536 + n / 256 % 256 * 256 + n % 256 ≡ n
 four-back n h = grind arith
 

@@ -7,7 +7,6 @@ use Rattle.std.specs.Written.{decimal}
 use Rattle.arithmetic.specs.declared.entry.Entry.{Entry}
 use Rattle.arithmetic.specs.Entries.{endless}
 use Rattle.arithmetic.specs.Occurrences.{begin, Overlap, Never}
-use Rattle.overlap.specs.declared.answer.Occurrence.{Occurrence}
 use Rattle.overlap.specs.declared.answer.Answer.{Answer}
 use Rattle.overlap.specs.declared.answer.Answer.the-variants.{Never as Said-never, Overlap as Said-overlap}
 

@@ -4,7 +4,6 @@ use Prim.Native.Nat.{ℕ}
 use lib.ListN.{getD}
 use Rattle.arithmetic.specs.Entries.{Made, Within, Refused as Entry-refused}
 use Rattle.overlap.specs.declared.fault.Limits.{Limits}
-use Rattle.overlap.specs.declared.fault.Which.{Which}
 use Rattle.overlap.specs.declared.fault.Which.the-variants.{First, Second}
 use Rattle.overlap.specs.declared.pair.Pair.{Pair}
 

@@ -4,7 +4,6 @@ use mathlib.Core.Bool.{Bool, false, cond}
 use mathlib.Core.List.{List, [], _∷_}
 use Rattle.std.specs.shelf.Lists.{All}
 use Rattle.std.specs.Slices.{Shuffled}
-use Rattle.queue.specs.Ranking.{Ranking}
 
 -- a record is put before the first that it ranks before
 abbrev pub insert : {X : Type 0} → (X → X → Bool) → X → List X → List X

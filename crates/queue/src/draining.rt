@@ -1,9 +1,7 @@
 // Taking all records out of a queue.
-ghost use mathlib.Core.Path.{_≡_};
-ghost use lib.ListN.{length, take, drop};
-ghost use Prim.Native.Nat.{ℕ, _≤_};
+ghost use lib.ListN.{length};
+ghost use Prim.Native.Nat.{_≤_};
 ghost use Rattle.std.specs.Orderings.{When};
-ghost use Rattle.queue.specs.Heaps.{Heaped, contents};
 ghost use Rattle.queue.specs.Drained.{Drained, Refused};
 use crate::places::take_first;
 use crate::ranking::Ranked;

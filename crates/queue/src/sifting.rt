@@ -1,7 +1,7 @@
 // Restoring the heap order after one record has changed.
 ghost use mathlib.Core.Path.{_≡_};
 ghost use lib.ListN.{length, getD};
-ghost use Prim.Native.Nat.{ℕ, _+_, _*_, _<_, _≤_};
+ghost use Prim.Native.Nat.{_+_, _*_, _<_, _≤_};
 ghost use Rattle.std.specs.Heap.{Best, Rises, Sinks};
 ghost use Rattle.std.specs.Slices.{Shuffled};
 ghost use Rattle.queue.specs.Heaps.{orders};

@@ -1,8 +1,7 @@
 -- An activity: what it belongs to, where it runs, and how.
-use mathlib.Core.Path.{_≡_}
-use mathlib.Core.List.{List, [], _∷_, _++_}
+use mathlib.Core.List.{List, _∷_, _++_}
 use Prim.Native.Nat.{ℕ, _^_, _<_}
-use lib.ListN.{length, getD}
+use lib.ListN.{getD}
 use Rattle.fields.specs.Bytes.{four-at, four-of}
 use Rattle.records.specs.declared.activity.ActivityField.{ActivityField}
 

@@ -1,8 +1,7 @@
 -- A row of a table: a cell and its offset.
-use mathlib.Core.Path.{_≡_}
-use mathlib.Core.List.{List, [], _∷_, _++_}
+use mathlib.Core.List.{List, _∷_, _++_}
 use Prim.Native.Nat.{ℕ, _^_, _<_}
-use lib.ListN.{length, getD}
+use lib.ListN.{getD}
 use Rattle.fields.specs.Bytes.{two-at, four-at, two-of, four-of}
 use Rattle.records.specs.declared.cell.CellField.{CellField}
 

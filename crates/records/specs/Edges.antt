@@ -1,8 +1,6 @@
 -- An edge from one activity to another.
-use mathlib.Core.Path.{_≡_}
-use mathlib.Core.List.{List, [], _∷_, _++_}
+use mathlib.Core.List.{List, _++_}
 use Prim.Native.Nat.{ℕ, _^_, _<_}
-use lib.ListN.{length, getD}
 use Rattle.fields.specs.Bytes.{two-at, two-of}
 use Rattle.records.specs.declared.edge.EdgeField.{EdgeField}
 

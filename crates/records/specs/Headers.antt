@@ -1,8 +1,6 @@
 -- The beginning of a file: its version, and the label that ties tables to their plan.
-use mathlib.Core.Path.{_≡_}
-use mathlib.Core.List.{List, [], _∷_, _++_}
+use mathlib.Core.List.{List, _++_}
 use Prim.Native.Nat.{ℕ, _^_, _<_}
-use lib.ListN.{length, getD}
 use Rattle.fields.specs.Bytes.{two-at, four-at, two-of, four-of}
 use Rattle.records.specs.declared.header.Header.{Header}
 

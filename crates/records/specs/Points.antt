@@ -1,8 +1,6 @@
 -- A point of a cost table.
-use mathlib.Core.Path.{_≡_}
-use mathlib.Core.List.{List, [], _∷_, _++_}
+use mathlib.Core.List.{List, _++_}
 use Prim.Native.Nat.{ℕ, _^_, _<_}
-use lib.ListN.{length, getD}
 use Rattle.fields.specs.Bytes.{four-at, four-of}
 use Rattle.records.specs.declared.point.PointField.{PointField}
 

@@ -1,7 +1,5 @@
 -- The laws of a link.
 use mathlib.Core.Path.{_≡_, refl, sym, subst}
-use mathlib.Core.Bool.{Bool, true, _&&_}
-use mathlib.Core.List.{List}
 use mathlib.Core.Logic.{_⊎_, ⊎-elim}
 use Prim.Native.Nat.{ℕ, _+_, _*_, _^_, _≤_, _<_}
 use native.Mathlib.Omega.{arith}
@@ -9,8 +7,7 @@ use lib.ListN.{getD}
 use Rattle.std.proofs.shelf.Ways.{tells}
 use Rattle.arithmetic.specs.Division.{divided-up}
 use Rattle.kinds.specs.Laws.{Laws}
-use Rattle.resources.specs.Link.{link, link-parts, link-right, link-time}
-use Rattle.kinds.specs.Parts.{Lawful, demanded}
+use Rattle.resources.specs.Link.{link, link-parts, link-time}
 use Rattle.kinds.proofs.PartLaws.{kind-laws}
 
 four : (code : ℕ) → 1 ≤ code → code ≤ 4 → (code ≡ 1) ⊎ ((code ≡ 2) ⊎ ((code ≡ 3) ⊎ (code ≡ 4)))

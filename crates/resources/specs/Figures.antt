@@ -1,9 +1,8 @@
 -- Worked figures of links and buses, each as what the definitions answer beside what is said.
 use mathlib.Core.Path.{_≡_}
-use mathlib.Core.Bool.{Bool, true, false}
+use mathlib.Core.Bool.{true, false}
 use mathlib.Core.List.{List, [], _∷_}
 use Prim.Native.Nat.{ℕ}
-use Rattle.std.specs.declared.option.Option.{Option}
 use Rattle.std.specs.declared.option.Option.the-variants.{Some, None}
 use Rattle.buses.specs.Bus.{bus}
 use Rattle.resources.specs.Link.{link}

@@ -1,6 +1,6 @@
 // Kind 2: a link.
 ghost use mathlib.Core.Path.{_≡_};
-ghost use Prim.Native.Nat.{ℕ, _^_, _<_, _≤_};
+ghost use Prim.Native.Nat.{_<_, _≤_};
 ghost use Rattle.resources.specs.Link.{link, link-time};
 use kinds::Kind;
 use kinds::STEP_MAX;

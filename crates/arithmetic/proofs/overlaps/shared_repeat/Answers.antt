@@ -1,4 +1,3 @@
-use Prim.Native.Nat.{_<_}
 use native.Mathlib.Nat.{le-of-dvd, pos-of-dvd-of-pos}
 use native.Mathlib.Omega.{arith}
 use Rattle.arithmetic.proofs.Factors.{divisor-is-determined}

@@ -1,6 +1,6 @@
 use mathlib.Core.Bool.{Bool, cond}
 use mathlib.Core.Path.{_≡_, subst}
-use Prim.Native.Nat.{_-_, _*_, _%_, _≤_}
+use Prim.Native.Nat.{_-_, _*_, _%_}
 use native.Mathlib.Omega.{arith}
 use Rattle.arithmetic.proofs.Factors.{inverse-solves}
 use Rattle.arithmetic.proofs.progressions.invert.Needs as need

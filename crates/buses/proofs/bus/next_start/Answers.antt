@@ -1,5 +1,5 @@
 use mathlib.Core.Path.{sym}
-use Rattle.buses.proofs.BusLaws.{step-some, step-none}
+use Rattle.buses.proofs.BusLaws.{step-some}
 use Rattle.buses.proofs.bus.next_start.Needs as need
 
 pub returns-then-serves : need.returns-then-serves

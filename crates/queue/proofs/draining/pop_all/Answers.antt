@@ -1,10 +1,8 @@
-use mathlib.Core.Path.{_≡_, sym, ap, subst, _∙_}
-use mathlib.Core.List.{List, []}
-use Prim.Native.Nat.{ℕ, _-_, _<_}
+use Prim.Native.Nat.{_-_, _<_}
 use native.Mathlib.Omega.{arith}
 use borrow.Author.Needs.{needs}
 use lib.ListN.{length}
-use Rattle.queue.proofs.Drains.{begins, steps, ends}
+use Rattle.queue.proofs.Drains.{steps, ends}
 use Rattle.queue.proofs.draining.pop_all.Needs as need
 
 pub offset-out-done : need.offset-out-done

@@ -1,5 +1,3 @@
-use Prim.Native.Nat.{_≤_}
-use lib.ListN.{length}
 use Rattle.queue.proofs.Drains.{Draining}
 use Rattle.queue.proofs.draining.pop_all.Given as given
 

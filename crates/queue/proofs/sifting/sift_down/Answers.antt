@@ -1,5 +1,5 @@
-use mathlib.Core.Path.{refl, sym, subst, _∙_}
-use Prim.Native.Nat.{_-_, _/_}
+use mathlib.Core.Path.{sym, subst, _∙_}
+use Prim.Native.Nat.{_-_}
 use native.Mathlib.Omega.{arith}
 use lib.ListN.{length}
 use Rattle.std.specs.Heap.{Best}

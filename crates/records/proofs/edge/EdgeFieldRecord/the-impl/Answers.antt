@@ -1,7 +1,6 @@
 use mathlib.Core.Path.{ap, _∙_}
-use mathlib.Core.List.{_∷_, _++_}
+use mathlib.Core.List.{_++_}
 use native.Mathlib.Omega.{arith}
-use lib.ListN.{getD}
 use Rattle.fields.specs.Bytes.{two-at, two-of}
 use Rattle.fields.proofs.Pieces.{two-last, two-piece}
 use Rattle.records.proofs.edge.EdgeFieldRecord.the-impl.Needs as need

@@ -1,7 +1,6 @@
 use mathlib.Core.Path.{ap, _∙_}
-use mathlib.Core.List.{_∷_, _++_}
+use mathlib.Core.List.{_++_}
 use native.Mathlib.Omega.{arith}
-use lib.ListN.{getD}
 use Rattle.fields.specs.Bytes.{four-at, four-of}
 use Rattle.fields.proofs.Pieces.{four-last, four-piece}
 use Rattle.records.proofs.point.PointFieldRecord.the-impl.Needs as need
