@@ -8,7 +8,7 @@ use crate::euclid::extended_gcd;
 use crate::pair::OccurrencePair;
 
 // The steps after which two progressions that agree modulo the divisor of their steps, one from `a` on by `p` and one
-// from `b` on by `q`, are first at the same number.
+// from `b` on by `q`, are at the same number. The least such steps are taken, though no contract asks for it.
 pub(crate) fn meeting(p: u64, a: u64, q: u64, b: u64) -> OccurrencePair
     requires { ⌜ Agree p a q b ⌝ }
     ensures { λ r. ⌜ Meet p a q b (r .first) (r .second) ⌝ }
