@@ -43,7 +43,7 @@ Overlaps-come-early = (x y : Repeating) → Proper x → Proper y → Ever x y �
 abbrev pub gap : ℕ → ℕ → ℕ → ℕ
 gap g s t = (t + (g - s % g)) % g
 
--- the test that decides it: the second starts after the first ends, and ends before the first starts again
+-- the test that decides it: modulo g, the second starts no sooner than the first ends, and ends no later than the first starts again
 abbrev pub apart : Repeating → Repeating → Bool
 apart x y =
     let g = gcd (x .repeat) (y .repeat) in
@@ -60,7 +60,7 @@ moved-on x = record { start = x .start + x .repeat; repeat = x .repeat; span = x
 abbrev pub Moving-on-alters-nothing : Type 0
 Moving-on-alters-nothing = (x y : Repeating) → Proper x → Proper y → Ever (moved-on x) y ↔ Ever x y
 
--- some number leaves the rest t by k and the rest u by m; the first such number is below 2 * (k * m)
+-- some number below 2 * (k * m) leaves the rest t by k and the rest u by m
 abbrev pub Common : ℕ → ℕ → ℕ → ℕ → Type 0
 Common k t m u = (j : ℕ) × ((j % k ≡ t) × (j % m ≡ u) × (j < 2 * (k * m)))
 

@@ -1,7 +1,7 @@
 -- All records of a queue, taken out one after the other.
 use mathlib.Core.Path.{_≡_}
 use mathlib.Core.Bool.{Bool}
-use mathlib.Core.List.{List}
+use mathlib.Core.List.{List, reverse}
 use mathlib.Core.Logic.{_⊎_}
 use Prim.Native.Nat.{ℕ, _≤_, _<_}
 use lib.ListN.{length, take, drop}
@@ -13,6 +13,8 @@ pub record Drained {X : Type 0} (before : X → X → Bool) (q : List X) (n : �
   pub room : n ≤ length out
   -- the records stand in the order of their rank
   pub in-order : Heaped before q n → take n out′ ≡ contents before q n
+  -- and backwards in the places that the queue had
+  pub left : take n q′ ≡ reverse (take n out′)
   pub beyond : drop n q′ ≡ drop n q
   pub out-beyond : drop n out′ ≡ drop n out
 

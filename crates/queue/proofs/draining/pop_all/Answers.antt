@@ -12,9 +12,9 @@ pub loop-done-again : need.loop-done-again
 loop-done-again g c =
     let l = c .loop-done in
     steps (g .T·Ranked .before) (c .args .queue .now) (c .args .out .now) (l .queue) (l .out) (c .take-first .last .queue) (c .args .count) (l .done) (c .take-first .result)
-    (omega arith) (omega arith) (l .inv) (c .take-first .ensures)
+    (omega arith) (omega arith) (omega arith) (l .inv) (c .take-first .ensures)
 
 pub returns : need.returns
 returns g c =
     let l = c .loop-done in
-    ends (g .T·Ranked .before) (c .args .queue .now) (c .args .out .now) (l .queue) (l .out) (c .args .count) (l .done) (c .pre .within) (c .pre .room) (omega arith) (l .inv)
+    ends (g .T·Ranked .before) (c .args .queue .now) (c .args .out .now) (l .queue) (l .out) (c .args .count) (l .done) (c .pre .within) (c .pre .room) (omega arith) (omega arith) (l .inv)
