@@ -5,7 +5,7 @@ use Rattle.std.specs.Cmp.{IsTotalOrder}
 use Rattle.std.specs.Ordering.{is_lt, ordering_reverse}
 use Rattle.std.specs.BinaryHeap.{lt_by_cmp}
 use Rattle.std.specs.BinaryHeap.Sift.{ComparesAt}
-use Rattle.queue.specs.Heaps.{order, orders}
+use Rattle.queue.specs.Heaps.{order}
 use Rattle.queue.specs.Ranking.{Ranking}
 
 -- of the two tests of a pair, as `order` joins them
@@ -34,17 +34,15 @@ turned false true h = refl
 turned false false h = refl
 
 module _ {X : Type 0} (before : X → X → Bool) where
-  pub below_is : (o : IsTotalOrder (orders before)) (x y : X) → lt_by_cmp (orders before) x y ≡ before y x
-  below_is o x y = ap is_lt (sym refl) ∙ less_told (before y x) (before x y)
+  pub below_is : (x y : X) → lt_by_cmp (order before) x y ≡ before y x
+  below_is x y = less_told (before y x) (before x y)
 
-  pub tells : (xs : List X) (i j : ℕ) (r : Bool) → ((d : X) → r ≡ before (get_or xs j d) (get_or xs i d)) → ComparesAt (orders before) xs i j r
-  tells xs i j r h = λ o d. below_is o (get_or xs i d) (get_or xs j d) ∙ sym (h d)
+  pub tells : (xs : List X) (i j : ℕ) (r : Bool) → ((d : X) → r ≡ before (get_or xs j d) (get_or xs i d)) → ComparesAt (order before) xs i j r
+  tells xs i j r h = λ d. below_is (get_or xs i d) (get_or xs j d) ∙ sym (h d)
 
-  pub total : Ranking before → IsTotalOrder (orders before)
+  pub total : Ranking before → IsTotalOrder (order before)
   total k = record {
-    cmp = order before;
-    says = λ x y r e. e;
-    flip = λ x y. turned (before y x) (before x y) (k.one_way y x);
+    antisymm = λ x y. turned (before y x) (before x y) (k.one_way y x);
     trans = λ x y z p q. ap (λ b. told b (before x z)) (k.chain z y x (told_less (before z y) (before y z) q) (told_less (before y x) (before x y) p));
-    alike = λ x y z e. let t = told_equal (before y x) (before x y) e in ap (λ w. order before w z) (k.no_tie x y t.1 t.0);
+    congr = λ x y z e. let t = told_equal (before y x) (before x y) e in ap (λ w. order before w z) (k.no_tie x y t.1 t.0);
   }

@@ -12,7 +12,7 @@ use Rattle.std.proofs.ByRecursion.{All-from_get_or, all_shuffled}
 use Rattle.std.specs.List.{AllByRecursion as All}
 use Rattle.std.proofs.lemmas.List.Sorted.{IsPermutation-trans, IsPermutation-sym, IsPermutation-cons, IsPermutation-to_front, length_permutation}
 use Rattle.std.proofs.lemmas.List.{take_more, get_or_read, drop_all, take_at, drop_at, get_or_at, get_or_append_left}
-use Rattle.queue.specs.Heaps.{Heaped, First, orders, Pushed, Popped}
+use Rattle.queue.specs.Heaps.{Heaped, First, order, Pushed, Popped}
 use Rattle.queue.specs.Ranking.{Ranking}
 use Rattle.queue.proofs.Orders.{below_is, total}
 use Rattle.queue.proofs.Sorting.{ranked_shuffled, ranked_first}
@@ -24,22 +24,22 @@ pub last_one : {X : Type 0} (s : List X) (n m : ℕ) (x : X) → 0 < n → lengt
 last_one s n m x pos e h is = ap (λ k. drop k s) h ∙ drop-cons s (n - 1) x (omega arith) ∙ (λ i. is i ∷ drop_all (suc (n - 1)) s (omega arith) i)
 
 module _ {X : Type 0} (before : X → X → Bool) (k : Ranking before) where
-  abbrev o : IsTotalOrder (orders before)
+  abbrev o : IsTotalOrder (order before)
   o = total before k
 
-  to_heap : (xs ys : List X) (low n m : ℕ) → m ≤ n → ((i : ℕ) (d : X) → low ≤ i → i < m → get_or ys i d ≡ get_or xs i d) → Heaped before xs n → IsHeapWithin (lt_by_cmp o) ys low m
+  to_heap : (xs ys : List X) (low n m : ℕ) → m ≤ n → ((i : ℕ) (d : X) → low ≤ i → i < m → get_or ys i d ≡ get_or xs i d) → Heaped before xs n → IsHeapWithin (lt_by_cmp (order before)) ys low m
   to_heap xs ys low n m le e h = λ p c d lo a b f.
-      (λ i. lt_by_cmp o (e p d lo (omega arith) i) (e c d (omega arith) f i)) ∙ below_is before o (get_or xs p d) (get_or xs c d) ∙ h p c d a b (omega arith)
+      (λ i. lt_by_cmp (order before) (e p d lo (omega arith) i) (e c d (omega arith) f i)) ∙ below_is before (get_or xs p d) (get_or xs c d) ∙ h p c d a b (omega arith)
 
-  from_heap : (xs ys : List X) (n : ℕ) → ((i : ℕ) (d : X) → i < n → get_or ys i d ≡ get_or xs i d) → IsHeapWithin (lt_by_cmp o) xs 0 n → Heaped before ys n
+  from_heap : (xs ys : List X) (n : ℕ) → ((i : ℕ) (d : X) → i < n → get_or ys i d ≡ get_or xs i d) → IsHeapWithin (lt_by_cmp (order before)) xs 0 n → Heaped before ys n
   from_heap xs ys n e h = λ p c d a b f.
-      (λ i. before (e c d f i) (e p d (omega arith) i)) ∙ sym (below_is before o (get_or xs p d) (get_or xs c d)) ∙ h p c d (omega arith) a b f
+      (λ i. before (e c d f i) (e p d (omega arith) i)) ∙ sym (below_is before (get_or xs p d) (get_or xs c d)) ∙ h p c d (omega arith) a b f
 
-  pub pushed : (q w ys tail : List X) (n : ℕ) (x : X) → n < length q → w ≡ take n q ++ x ∷ [] → tail ≡ drop (n + 1) q → IsPermutation w ys → SiftsUp (orders before) w n ys → Pushed before q n x (ys ++ tail)
+  pub pushed : (q w ys tail : List X) (n : ℕ) (x : X) → n < length q → w ≡ take n q ++ x ∷ [] → tail ≡ drop (n + 1) q → IsPermutation w ys → SiftsUp (order before) w n ys → Pushed before q n x (ys ++ tail)
   unfolding RestoresHeap WholeHeap
   pushed q w ys tail n x lt is rest s rises =
       let long : length ys ≡ n + 1 = length_permutation w ys s ∙ ap length is ∙ omega (arith, length-append (take n q) (x ∷ []), length-take n q) in
-      let mends : RestoresHeap (orders before) w 0 n ys = sifts.Take-ends (orders before) w ys n (n + 1) (omega arith) (sifts.take_steps (orders before) w w ys n n rises (sifts.take_begins (orders before) w n)) in
+      let mends : RestoresHeap (order before) w 0 n ys = sifts.Take-ends (order before) o w ys n (n + 1) (omega arith) (sifts.take_steps (order before) o w w ys n n rises (sifts.take_begins (order before) o w n)) in
       let same : IsPermutation (x ∷ take n q) (take (n + 1) (ys ++ tail)) =
       subst (IsPermutation (x ∷ take n q)) (sym (take_at ys tail (n + 1) long))
       (IsPermutation-trans (x ∷ take n q) w ys (subst (IsPermutation (x ∷ take n q)) (sym is) (IsPermutation-sym _ _ (IsPermutation-to_front (take n q) x))) s) in
@@ -48,7 +48,7 @@ module _ {X : Type 0} (before : X → X → Bool) (k : Ranking before) where
         contents_insert = ranked_shuffled before k (x ∷ take n q) (take (n + 1) (ys ++ tail)) same;
         beyond = drop_at ys tail (n + 1) long ∙ rest;
         heap = λ h. from_heap ys (ys ++ tail) (n + 1) (λ i d p. get_or_append_left ys tail d i (omega arith))
-            (subst (IsHeapWithin (lt_by_cmp o) ys 0) long (mends o (to_heap q w 0 n n (omega arith)
+            (subst (IsHeapWithin (lt_by_cmp (order before)) ys 0) long (mends (to_heap q w 0 n n (omega arith)
             (λ i d _ p. ap (λ (l : List X). get_or l i d) is ∙ get_or_append_left (take n q) (x ∷ []) d i (omega (arith, length-take n q)) ∙ get_or-take n q i d p) h)));
       }
 
@@ -63,7 +63,7 @@ module _ {X : Type 0} (before : X → X → Bool) (k : Ranking before) where
   -- part is the queue, s is it with its ends exchanged, and ys is the rest of s after the sift
   pub popped : (q part s ys : List X) (n : ℕ) (x : X) → 0 < n → n ≤ length q → part ≡ take n q → ((d : X) → x ≡ get_or part 0 d) → IsPermutation part s
       → ((d : X) → get_or s (n - 1) d ≡ get_or part 0 d) → ((c : ℕ) (d : X) → (c ≡ 0 → ⊥) → (c ≡ n - 1 → ⊥) → get_or s c d ≡ get_or part c d)
-      → IsPermutation (take (n - 1) s) ys → SiftsDown (orders before) (take (n - 1) s) 0 (n - 1) ys
+      → IsPermutation (take (n - 1) s) ys → SiftsDown (order before) (take (n - 1) s) 0 (n - 1) ys
       → Popped before q n x ((ys ++ x ∷ []) ++ drop n q)
   unfolding SiftsDown WholeHeap
   popped q part s ys n x pos le is top mixed last others t sinks =
@@ -83,30 +83,30 @@ module _ {X : Type 0} (before : X → X → Bool) (k : Ranking before) where
       (subst (λ l. IsPermutation l (x ∷ ys)) (sym whole) (IsPermutation-trans (v ++ x ∷ []) (x ∷ v) (x ∷ ys) (IsPermutation-to_front v x) (IsPermutation-cons x v ys t))))) in
       let first : Heaped before q n → First before x q n =
       λ h c d p.
-      let heaped : WholeHeap o part = subst (IsHeapWithin (lt_by_cmp o) part 0) (sym long) (to_heap q part 0 n n (omega arith) (λ c d lo p. in_part c d p) h) in
-      let best = every_at (λ y. lt_by_cmp o x y ≡ false) part c d (omega arith) (sifts.greatest o part x (top x) heaped) in
-      ap (λ y. before y x) (sym (in_part c d p)) ∙ sym (below_is before o x (get_or part c d)) ∙ best in
+      let heaped : WholeHeap (order before) part = subst (IsHeapWithin (lt_by_cmp (order before)) part 0) (sym long) (to_heap q part 0 n n (omega arith) (λ c d lo p. in_part c d p) h) in
+      let best = every_at (λ y. lt_by_cmp (order before) x y ≡ false) part c d (omega arith) (sifts.greatest o part x (top x) heaped) in
+      ap (λ y. before y x) (sym (in_part c d p)) ∙ sym (below_is before x (get_or part c d)) ∙ best in
       record {
         same = same;
         first = first;
         contents_tail = λ h. ranked_first before k (take n q) (take (n - 1) final) x same (others_after q (take (n - 1) final) n x le same (first h));
         beyond = drop_at (ys ++ x ∷ []) (drop n q) n long_front;
         freed = λ d. get_or_append_left (ys ++ x ∷ []) (drop n q) d (n - 1) (omega arith) ∙ get_or_at ys x [] d (n - 1) long_ys;
-        heap = λ h. from_heap ys final (n - 1) same_front (sinks.1 o (to_heap q v 1 n (n - 1) (omega arith)
+        heap = λ h. from_heap ys final (n - 1) same_front (sinks.1 (to_heap q v 1 n (n - 1) (omega arith)
             (λ c d lo p. get_or-take (n - 1) s c d p ∙ others c d (omega arith) (omega arith) ∙ in_part c d (omega arith)) h));
       }
 
   -- the same, with the cuts as the code writes them
   pub popped_cut : (q s ys : List X) (n m m' : ℕ) (x : X) → m ≡ n → m' ≡ n - 1 → 0 < n → n ≤ length q → x ≡ get_or (take m q) 0 x → IsPermutation (take m q) s
       → ((d : X) → get_or s (n - 1) d ≡ get_or (take m q) 0 d) → ((c : ℕ) (d : X) → (c ≡ 0 → ⊥) → (c ≡ n - 1 → ⊥) → get_or s c d ≡ get_or (take m q) c d)
-      → IsPermutation (take m' s) ys → SiftsDown (orders before) (take m' s) 0 (length (take m' s)) ys
+      → IsPermutation (take m' s) ys → SiftsDown (order before) (take m' s) 0 (length (take m' s)) ys
       → Popped before q n x ((ys ++ drop m' s) ++ drop m q)
   popped_cut q s ys n m m' x e e' pos le top mixed last others t sinks =
       let long : length (take m q) ≡ n = omega (arith, length-take m q) in
       let long_s : length s ≡ n = length_permutation (take m q) s mixed ∙ long in
       let end = last_one s n m' x pos long_s e' (last x ∙ sym top) in
       let here : length (take m' s) ≡ n - 1 = omega (arith, length-take m' s) in
-      let sunk = subst (λ k. SiftsDown (orders before) (take m' s) 0 k ys) here sinks in
+      let sunk = subst (λ k. SiftsDown (order before) (take m' s) 0 k ys) here sinks in
       subst (Popped before q n x) (λ i. (ys ++ sym end i) ++ drop (sym e i) q)
       (popped q (take m q) s ys n x pos le (ap (λ k. take k q) e) (get_or_read (take m q) 0 x (omega arith) top) mixed last others
-      (subst (λ k. IsPermutation (take k s) ys) e' t) (subst (λ k. SiftsDown (orders before) (take k s) 0 (n - 1) ys) e' sunk))
+      (subst (λ k. IsPermutation (take k s) ys) e' t) (subst (λ k. SiftsDown (order before) (take k s) 0 (n - 1) ys) e' sunk))

@@ -40,6 +40,3 @@ module _ {X : Type 0} (before : X → X → Bool) where
   -- the ranking as one of std's orders, in which what ranks first is the greatest
   abbrev pub order : X → X → Ordering
   order x y = cond (before y x) Less (cond (before x y) Greater Equal)
-
-  abbrev pub orders : X → X → Ordering → Type 0
-  orders x y r = r ≡ order x y

@@ -2,7 +2,7 @@
 ghost use Rattle.std.specs.Prelude.{◌≡◌, ◌+◌, ◌*◌, ◌<◌, ◌≤◌, length, slice_index_or};
 ghost use Rattle.std.specs.BinaryHeap.Sift.{IsGreaterChild, SiftsUp, SiftsDown};
 ghost use Rattle.std.specs.List.Sorted.{IsPermutation};
-ghost use Rattle.queue.specs.Heaps.{orders};
+ghost use Rattle.queue.specs.Heaps.{order};
 
 use crate::ranking::Ranked;
 
@@ -18,7 +18,7 @@ fn is_before<T: Ranked>(queue: &[T], i: usize, j: usize) -> bool
 pub(crate) fn sift_up<T: Ranked>(queue: &mut [T], start: usize)
     requires { start < length queue.old }
     ensures shuffled { IsPermutation queue.old queue.new }
-    ensures rises { SiftsUp (orders T.Ranked.before) queue.old start queue.new }
+    ensures rises { SiftsUp (order T.Ranked.before) queue.old start queue.new }
 {
     let mut place = start;
     while 0 < place && is_before(queue, place, (place - 1) / 2) {
@@ -31,7 +31,7 @@ pub(crate) fn sift_up<T: Ranked>(queue: &mut [T], start: usize)
 fn first_child<T: Ranked>(queue: &[T], place: usize) -> usize
     requires { place * 2 + 1 < length queue.now }
     ensures bound { (result < length queue.now) × (place * 2 + 1 ≤ result) × (result ≤ place * 2 + 2) }
-    ensures best { IsGreaterChild (orders T.Ranked.before) queue.now place result (length queue.now) }
+    ensures best { IsGreaterChild (order T.Ranked.before) queue.now place result (length queue.now) }
 {
     let left = place * 2 + 1;
     if queue.len() <= left + 1 {
@@ -46,7 +46,7 @@ fn first_child<T: Ranked>(queue: &[T], place: usize) -> usize
 // Lets the first record sink until none below it ranks before it.
 pub(crate) fn sift_down<T: Ranked>(queue: &mut [T])
     ensures shuffled { IsPermutation queue.old queue.new }
-    ensures sinks { SiftsDown (orders T.Ranked.before) queue.old 0 (length queue.old) queue.new }
+    ensures sinks { SiftsDown (order T.Ranked.before) queue.old 0 (length queue.old) queue.new }
 {
     let n = queue.len();
     let mut place = 0;

@@ -10,6 +10,7 @@ use Rattle.records.specs.Applications.{application_in, application_bytes}
 use Rattle.records.specs.Points.{point_in, point_bytes}
 use Rattle.records.specs.Activities.{activity_in, activity_bytes}
 use Rattle.records.specs.Edges.{edge_in, edge_bytes}
+use Rattle.records.specs.Cells.{cell_in, cell_bytes}
 
 module _ (xs : List ℕ) where
   pub header_again : length xs ≡ 6 → All (λ b. b < 256) xs → header_bytes (header_in xs) ≡ xs
@@ -40,3 +41,9 @@ module _ (xs : List ℕ) where
 
   pub edge_again : length xs ≡ 4 → All (λ b. b < 256) xs → edge_bytes (edge_in xs) ≡ xs
   edge_again e h = ap (λ l. two_of (two_at xs 0) ++ l) (two_last xs h 2 (omega arith)) ∙ two_piece xs h 0 (omega arith)
+
+  pub cell_again : length xs ≡ 7 → All (λ b. b < 256) xs → cell_bytes (cell_in xs) ≡ xs
+  cell_again e h =
+      ap (λ l. two_of (two_at xs 0) ++ (slice_index xs 2 ∷ l)) (four_last xs h 3 (omega arith))
+      ∙ ap (λ l. two_of (two_at xs 0) ++ l) (one_piece xs 2 (omega arith))
+      ∙ two_piece xs h 0 (omega arith)

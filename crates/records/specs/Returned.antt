@@ -13,6 +13,8 @@ use Rattle.records.specs.Points.{point_in, point_bytes, PointFits}
 use Rattle.records.specs.declared.activity.ActivityField.{ActivityField}
 use Rattle.records.specs.declared.edge.EdgeField.{EdgeField}
 use Rattle.records.specs.Activities.{activity_in, activity_bytes, ActivityFits}
+use Rattle.records.specs.declared.cell.CellField.{CellField}
+use Rattle.records.specs.Cells.{cell_in, cell_bytes, CellFits}
 use Rattle.records.specs.Edges.{edge_in, edge_bytes, EdgeFits}
 
 pub header_back : (x : Header) → HeaderFits x → header_in (header_bytes x) ≡ x
@@ -67,3 +69,10 @@ edge_back x h =
     let to : (edge_in (edge_bytes x)).to ≡ x.to = omega arith in
     let make : ℕ → ℕ → EdgeField = λ a b. record { from = a; to = b } in
     λ i. make (from i) (to i)
+
+pub cell_back : (x : CellField) → CellFits x → cell_in (cell_bytes x) ≡ x
+cell_back x h =
+    let activity : (cell_in (cell_bytes x)).activity ≡ x.activity = omega arith in
+    let offset = four_back x.offset h.1 in
+    let make : ℕ → ℕ → CellField = λ a o. record { activity = a; turn = x.turn; offset = o } in
+    λ i. make (activity i) (offset i)

@@ -1,7 +1,8 @@
 // An activity: what it belongs to, where it runs, and how.
+ghost use Rattle.std.specs.Prelude.{refl};
 ghost use Rattle.records.specs.Activities.{activity_bytes, ActivityFits, activity_in};
 ghost use Rattle.records.specs.Again.{activity_again};
-ghost use Rattle.std.proofs.Common.{rules};
+ghost use Rattle.records.specs.Returned.{activity_back};
 
 use fields::Record;
 
@@ -30,9 +31,9 @@ impl Record for ActivityField {
 
     ghost fits = { ActivityFits };
 
-    ghost long = { Prim.search rules };
+    ghost long = { λ x. refl };
 
-    ghost back = { Prim.search rules };
+    ghost back = { activity_back };
 
     ghost again = { activity_again };
 

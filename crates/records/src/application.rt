@@ -1,7 +1,8 @@
 // An application: its period and its latency bound.
+ghost use Rattle.std.specs.Prelude.{refl};
 ghost use Rattle.records.specs.Applications.{application_bytes, ApplicationFits, application_in};
 ghost use Rattle.records.specs.Again.{application_again};
-ghost use Rattle.std.proofs.Common.{rules};
+ghost use Rattle.records.specs.Returned.{application_back};
 
 use fields::Record;
 
@@ -26,9 +27,9 @@ impl Record for ApplicationField {
 
     ghost fits = { ApplicationFits };
 
-    ghost long = { Prim.search rules };
+    ghost long = { λ x. refl };
 
-    ghost back = { Prim.search rules };
+    ghost back = { application_back };
 
     ghost again = { application_again };
 

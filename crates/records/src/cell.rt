@@ -1,9 +1,8 @@
 // A row of a table: a cell and its offset.
+ghost use Rattle.std.specs.Prelude.{refl};
 ghost use Rattle.records.specs.Cells.{cell_bytes, CellFits, cell_in};
-ghost use Rattle.std.proofs.Common.{ap, ◌∙◌, arith, rules};
-ghost use Rattle.std.specs.Prelude.{◌∷◌, ◌++◌, slice_index};
-ghost use Rattle.fields.specs.Bytes.{two_at, two_of};
-ghost use Rattle.fields.proofs.Pieces.{four_last, one_piece, two_piece};
+ghost use Rattle.records.specs.Again.{cell_again};
+ghost use Rattle.records.specs.Returned.{cell_back};
 
 use fields::Record;
 
@@ -29,14 +28,11 @@ impl Record for CellField {
 
     ghost fits = { CellFits };
 
-    ghost long = { Prim.search rules };
+    ghost long = { λ x. refl };
 
-    ghost back = { Prim.search rules };
+    ghost back = { cell_back };
 
-    ghost again = { λ xs e h.
-        ap (λ l. two_of (two_at xs 0) ++ (slice_index xs 2 ∷ l)) (four_last xs h 3 (omega arith))
-        ∙ ap (λ l. two_of (two_at xs 0) ++ l) (one_piece xs 2 (omega arith))
-        ∙ two_piece xs h 0 (omega arith) };
+    ghost again = { cell_again };
 
     fn tag_byte() -> u8 {
         Self::TAG

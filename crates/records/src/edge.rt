@@ -1,7 +1,8 @@
 // An edge from one activity to another.
+ghost use Rattle.std.specs.Prelude.{refl};
 ghost use Rattle.records.specs.Edges.{edge_bytes, EdgeFits, edge_in};
 ghost use Rattle.records.specs.Again.{edge_again};
-ghost use Rattle.std.proofs.Common.{rules};
+ghost use Rattle.records.specs.Returned.{edge_back};
 
 use fields::Record;
 
@@ -26,9 +27,9 @@ impl Record for EdgeField {
 
     ghost fits = { EdgeFits };
 
-    ghost long = { Prim.search rules };
+    ghost long = { λ x. refl };
 
-    ghost back = { Prim.search rules };
+    ghost back = { edge_back };
 
     ghost again = { edge_again };
 

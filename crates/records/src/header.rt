@@ -1,7 +1,8 @@
 // The beginning of a file: its version, and the label that ties tables to their plan.
+ghost use Rattle.std.specs.Prelude.{refl};
 ghost use Rattle.records.specs.Headers.{header_bytes, HeaderFits, header_in};
 ghost use Rattle.records.specs.Again.{header_again};
-ghost use Rattle.std.proofs.Common.{rules};
+ghost use Rattle.records.specs.Returned.{header_back};
 
 use fields::Record;
 
@@ -26,9 +27,9 @@ impl Record for Header {
 
     ghost fits = { HeaderFits };
 
-    ghost long = { Prim.search rules };
+    ghost long = { λ x. refl };
 
-    ghost back = { Prim.search rules };
+    ghost back = { header_back };
 
     ghost again = { header_again };
 

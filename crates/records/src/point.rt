@@ -1,7 +1,8 @@
 // A point of a cost table.
+ghost use Rattle.std.specs.Prelude.{refl};
 ghost use Rattle.records.specs.Points.{point_bytes, PointFits, point_in};
 ghost use Rattle.records.specs.Again.{point_again};
-ghost use Rattle.std.proofs.Common.{rules};
+ghost use Rattle.records.specs.Returned.{point_back};
 
 use fields::Record;
 
@@ -26,9 +27,9 @@ impl Record for PointField {
 
     ghost fits = { PointFits };
 
-    ghost long = { Prim.search rules };
+    ghost long = { λ x. refl };
 
-    ghost back = { Prim.search rules };
+    ghost back = { point_back };
 
     ghost again = { point_again };
 

@@ -1,8 +1,8 @@
 // A resource: a kind number and its four numbers.
+ghost use Rattle.std.specs.Prelude.{refl};
 ghost use Rattle.records.specs.Resources.{resource_bytes, ResourceFits, resource_in};
 ghost use Rattle.records.specs.Returned.{resource_back};
 ghost use Rattle.records.specs.Again.{resource_again};
-ghost use Rattle.std.proofs.Common.{rules};
 
 use fields::Record;
 
@@ -27,7 +27,7 @@ impl Record for ResourceField {
 
     ghost fits = { ResourceFits };
 
-    ghost long = { Prim.search rules };
+    ghost long = { λ x. refl };
 
     ghost back = { resource_back };
 

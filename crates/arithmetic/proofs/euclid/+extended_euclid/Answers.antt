@@ -5,14 +5,14 @@ use Rattle.arithmetic.proofs.euclid.+extended_euclid.Goals as goal
 pub returns-then-b-eq0 : goal.returns-then-b-eq0
 returns-then-b-eq0 t c = record { identity = identity_zero c.args.a c.args.b c.if-b-eq0.true; reduced = λ e. refl }
 
-pub overflow-mul-result : goal.overflow-mul-result
-overflow-mul-result t c = let h = factor_bound c.args.a c.args.b c.extended-euclid-next.result (omega arith) c.extended-euclid-next.ensures.identity c.extended-euclid-next.ensures.reduced in omega arith
+pub overflow_mul-result : goal.overflow_mul-result
+overflow_mul-result t c = let h = factor_bound c.args.a c.args.b c.extended_euclid-next.result (omega arith) c.extended_euclid-next.ensures.identity c.extended_euclid-next.ensures.reduced in omega arith
 
-pub overflow-add-result : goal.overflow-add-result
-overflow-add-result t c = let h = factor_bound c.args.a c.args.b c.extended-euclid-next.result (omega arith) c.extended-euclid-next.ensures.identity c.extended-euclid-next.ensures.reduced in omega arith
+pub overflow_add-result : goal.overflow_add-result
+overflow_add-result t c = let h = factor_bound c.args.a c.args.b c.extended_euclid-next.result (omega arith) c.extended_euclid-next.ensures.identity c.extended_euclid-next.ensures.reduced in omega arith
 
 pub returns : goal.returns
 returns t c = record {
-  identity = identity_step c.args.a c.args.b c.extended-euclid-next.result (omega arith) c.extended-euclid-next.ensures.identity c.extended-euclid-next.ensures.reduced;
+  identity = identity_step c.args.a c.args.b c.extended_euclid-next.result (omega arith) c.extended_euclid-next.ensures.identity c.extended_euclid-next.ensures.reduced;
   reduced = λ e. absurd (omega arith);
 }

@@ -1,4 +1,4 @@
 use Rattle.arithmetic.proofs.euclid.+extended_euclid.Given as goal
 
-abbrev pub decreases-extended-euclid : goal.decreases-extended-euclid
-decreases-extended-euclid l = l.b
+abbrev pub decreases-extended_euclid : goal.decreases-extended_euclid
+decreases-extended_euclid l = l.b

@@ -11,13 +11,13 @@ returns g c =
     let out = c.args.output.now in
     let at = c.args.at in
     let x = c.args.item.now in
-    let len = c.body-len-len.ensures in
+    let len = c.body_len-len.ensures in
     let long = laws.long x in
-    let head : c.copy-from-slice.new.self ≡ r.tag ∷ (r.len / 256 % 256) ∷ (r.len % 256) ∷ [] = search rules in
+    let head : c.copy_from_slice.new.self ≡ r.tag ∷ (r.len / 256 % 256) ∷ (r.len % 256) ∷ [] = search rules in
     let body : c.write.new.body ≡ r.bytes x = c.write.ensures.after in
     let heads = ap length head in
     let bodies = ap length body in
-    let is = put_put out c.copy-from-slice.new.self c.write.new.body at (at + 3) (at + 3 - at) (at + 3 + c.body-len-len.result - (at + 3)) (omega arith) (omega arith) (omega arith) (omega arith)
+    let is = put_put out c.copy_from_slice.new.self c.write.new.body at (at + 3) (at + 3 - at) (at + 3 + c.body_len-len.result - (at + 3)) (omega arith) (omega arith) (omega arith) (omega arith)
     ∙ (λ i. placed out at (head i ++ body i)) in
     let room = le-ltb (length out) (at + 3 + r.len) (omega arith) in record {
       answer = ap (λ n. Ok (at + 3 + n)) len ∙ sym (cond-false _ _ _ room);

@@ -9,8 +9,8 @@ loop-x-preserved c =
     let word = c.args.word.now in
     let n = c.args.numbers.now in
     let i = c.loop-x.x-index in
-    let part : string_bytes c.in-ok-part.part ≡ spaced (get_or n i 0) = c.in-ok-part.ensures.ok in
-    let grown : string_bytes c.push-str.new.self ≡ string_bytes c.loop-x.text ++ string_bytes c.in-ok-part.part = c.in-ok-push-str.ensures.bytes ∙ ap (λ l. string_bytes c.loop-x.text ++ l) c.as-str.ensures.value in
+    let part : string_bytes c.in_ok-part.part ≡ spaced (get_or n i 0) = c.in_ok-part.ensures.ok in
+    let grown : string_bytes c.push_str.new.self ≡ string_bytes c.loop-x.text ++ string_bytes c.in_ok-part.part = c.in_ok-push_str.ensures.bytes ∙ ap (λ l. string_bytes c.loop-x.text ++ l) c.as_str.ensures.value in
     grown ∙ (λ j. c.loop-x.invariant j ++ part j) ∙ flat_map_more spaced word (take i n) (get_or n i 0) ∙ ap (λ l. word ++ flat_map spaced l) (sym (take_more n i 0 c.loop-x-test.true))
 
 pub returns : goal.returns

@@ -5,8 +5,8 @@ use Rattle.plan.specs.Cells.{empty_cell, empty_cells, turn_ids}
 use Rattle.plan.proofs.CellLists.{cells_more, count_more, count_of_some}
 use Rattle.plan.proofs.laying.lay_cells.Goals as goal
 
-pub lay-turns-requires : goal.lay-turns-requires
-lay-turns-requires c =
+pub lay_turns-requires : goal.lay_turns-requires
+lay_turns-requires c =
     let xs = c.args.activities.now in
     let i = c.loop-i.i in
     let more = count_more xs i c.loop-i-test.true in
@@ -18,11 +18,11 @@ loop-i-preserved c =
     let xs = c.args.activities.now in
     let i = c.loop-i.i in
     let k = (get_or xs i no_activity).turns in (
-      c.lay-turns.ensures.items
+      c.lay_turns.ensures.items
           ∙ ap (λ l. l ++ map empty_cell (turn_ids i k)) c.loop-i.invariant.0
           ∙ sym (cells_more xs i c.loop-i-test.true),
-      c.lay-turns.ensures.len ∙ ap (λ n. n + k) c.loop-i.invariant.1 ∙ sym (count_more xs i c.loop-i-test.true),
-      c.lay-turns.ensures.capacity ∙ c.loop-i.invariant.2,
+      c.lay_turns.ensures.len ∙ ap (λ n. n + k) c.loop-i.invariant.1 ∙ sym (count_more xs i c.loop-i-test.true),
+      c.lay_turns.ensures.capacity ∙ c.loop-i.invariant.2,
     )
 
 pub returns : goal.returns

@@ -2,14 +2,14 @@ use Rattle.std.proofs.Common.{◌-◌, ◌<◌, length, arith, rules}
 use Rattle.queue.proofs.Drains.{steps, ends}
 use Rattle.queue.proofs.draining.pop_all.Goals as goal
 
-pub offset-bounds-out-done : goal.offset-bounds-out-done
-offset-bounds-out-done g c = let h : c.loop-done.done < length c.args.out.now = omega arith in search rules
+pub offset_bounds-out-done : goal.offset_bounds-out-done
+offset_bounds-out-done g c = let h : c.loop-done.done < length c.args.out.now = omega arith in search rules
 
 pub loop-done-preserved : goal.loop-done-preserved
 loop-done-preserved g c =
     let l = c.loop-done in
-    steps g.T.Ranked.before c.args.queue.now c.args.out.now l.queue l.out c.take-first.new.queue c.args.count l.done c.take-first.result
-    (omega arith) (omega arith) (omega arith) l.invariant c.take-first.ensures
+    steps g.T.Ranked.before c.args.queue.now c.args.out.now l.queue l.out c.take_first.new.queue c.args.count l.done c.take_first.result
+    (omega arith) (omega arith) (omega arith) l.invariant c.take_first.ensures
 
 pub returns : goal.returns
 returns g c =

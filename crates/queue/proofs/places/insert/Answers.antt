@@ -9,5 +9,5 @@ returns g c =
     let x = c.args.item in
     let m = n + 1 - 0 in
     let e : m ≡ n + 1 = omega arith in
-    let told = c.sift-up.ensures in
-    pushed g.T.Ranked.before g.met.T.Ranked.ranking q _ c.sift-up.new.queue (drop m (set q n x)) n x c.requires (one_more q n m x c.requires e) (ap (λ k. drop k (set q n x)) e ∙ drop-set-lt (n + 1) q n x (omega arith)) told.shuffled told.rises
+    let told = c.sift_up.ensures in
+    pushed g.T.Ranked.before g.met.T.Ranked.ranking q _ c.sift_up.new.queue (drop m (set q n x)) n x c.requires (one_more q n m x c.requires e) (ap (λ k. drop k (set q n x)) e ∙ drop-set-lt (n + 1) q n x (omega arith)) told.shuffled told.rises

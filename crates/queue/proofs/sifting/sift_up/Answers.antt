@@ -2,12 +2,12 @@ use Rattle.std.proofs.Common.{◌-◌, ◌/◌, sym, ◌∙◌, arith}
 use Rattle.std.proofs.HeapSift as sifts
 use Rattle.std.proofs.Permutation.{as_core}
 use Rattle.std.proofs.lemmas.List.Sorted.{IsPermutation-refl, IsPermutation-trans}
-use Rattle.queue.specs.Heaps.{orders}
-use Rattle.queue.proofs.Orders.{tells}
+use Rattle.queue.specs.Heaps.{order}
+use Rattle.queue.proofs.Orders.{tells, total}
 use Rattle.queue.proofs.sifting.sift_up.Goals as goal
 
 pub loop-place-init : goal.loop-place-init
-loop-place-init g c = (c.requires, omega arith, IsPermutation-refl c.args.queue.now, sifts.rise_begins (orders g.T.Ranked.before) c.args.queue.now c.args.start)
+loop-place-init g c = (c.requires, omega arith, IsPermutation-refl c.args.queue.now, sifts.rise_begins (order g.T.Ranked.before) (total g.T.Ranked.before g.met.T.Ranked.ranking) c.args.queue.now c.args.start)
 
 pub loop-place-preserved : goal.loop-place-preserved
 loop-place-preserved g c =
@@ -20,19 +20,19 @@ loop-place-preserved g c =
       omega arith,
       omega arith,
       IsPermutation-trans xs ys zs l.invariant.2 c.swap.ensures.permutation,
-      sifts.rise_steps (orders before) xs ys zs c.args.start l.place (omega arith) (omega arith) (omega arith) (c.swap.ensures.after ∙ sym (as_core ys up l.place)) (tells before ys up l.place _ c.if-is-before.ensures) l.invariant.3,
+      sifts.rise_steps (order before) (total before g.met.T.Ranked.ranking) xs ys zs c.args.start l.place (omega arith) (omega arith) (omega arith) (c.swap.ensures.after ∙ sym (as_core ys up l.place)) (tells before ys up l.place _ c.if-is_before.ensures) l.invariant.3,
     )
 
-pub returns-else-is-before : goal.returns-else-is-before
-returns-else-is-before g c =
+pub returns-else-is_before : goal.returns-else-is_before
+returns-else-is_before g c =
     let before = g.T.Ranked.before in
     let l = c.loop-place in
     let up = (l.place - 1) / 2 in record {
       shuffled = l.invariant.2;
-      rises = sifts.rise_rests (orders before) c.args.queue.now l.queue c.args.start l.place (tells before l.queue up l.place _ c.if-is-before.ensures) l.invariant.3;
+      rises = sifts.rise_rests (order before) (total before g.met.T.Ranked.ranking) c.args.queue.now l.queue c.args.start l.place (tells before l.queue up l.place _ c.if-is_before.ensures) l.invariant.3;
     }
 
 pub returns-after-loop-place : goal.returns-after-loop-place
 returns-after-loop-place g c =
     let l = c.loop-place in
-    record { shuffled = l.invariant.2; rises = sifts.rise_tops (orders g.T.Ranked.before) c.args.queue.now l.queue c.args.start l.place (omega arith) l.invariant.3 }
+    record { shuffled = l.invariant.2; rises = sifts.rise_tops (order g.T.Ranked.before) (total g.T.Ranked.before g.met.T.Ranked.ranking) c.args.queue.now l.queue c.args.start l.place (omega arith) l.invariant.3 }

@@ -5,18 +5,17 @@ use Rattle.costs.specs.Tables.{points_of}
 use Rattle.costs.proofs.Rising.{points_right-push}
 use Rattle.costs.proofs.points.Points.put.Goals as goal
 
-pub invariant-of-self : goal.invariant-of-self
-invariant-of-self c =
+pub invariant_of-self : goal.invariant_of-self
+invariant_of-self c =
     let p = c.args.self.now in
     let x = c.args.next in
-    let e = take_more_set p.items p.count x (omega arith) in (
-      (
+    let e = take_more_set p.items p.count x (omega arith) in record {
+      kept = (
         length-set p.items p.count x ∙ p.kept.0,
         omega arith,
         ap points_right e ∙ points_right-push (points_of p) x ∙ (λ i. p.kept.2 i && c.requires.follows i),
-      ),
-      tt,
-    )
+      );
+    }
 
 pub returns : goal.returns
 returns c = take_more_set c.args.self.now.items c.args.self.now.count c.args.next (omega arith)

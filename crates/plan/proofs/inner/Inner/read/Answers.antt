@@ -6,11 +6,11 @@ use Rattle.plan.proofs.CellLists.{same_empty}
 use Rattle.plan.proofs.Meaning.{meaning}
 use Rattle.plan.proofs.inner.Inner.read.Goals as goal
 
-pub invariant-of-self-2 : goal.invariant-of-self-2
-invariant-of-self-2 g c =
+pub invariant_of-self-2 : goal.invariant_of-self-2
+invariant_of-self-2 g c =
     let activities = vec_items c.read-answer.new.self.activities in
-    let laid = c.lay-cells.ensures.items ∙ ap empty_cells c.as-slice.ensures.value in (
-      omega (arith, c.lay-cells.ensures.capacity, c.clear.ensures.capacity, c.args.self.now.room),
+    let laid = c.lay_cells.ensures.items ∙ ap empty_cells c.as_slice.ensures.value in (
+      omega (arith, c.lay_cells.ensures.capacity, c.clear.ensures.capacity, c.args.self.now.room),
       ((λ _. ap (λ l. same_ids l (cell_ids 0 activities)) laid ∙ same_empty (cell_ids 0 activities)), tt),
     )
 
@@ -18,6 +18,6 @@ pub returns : goal.returns
 returns g c =
     record {
       answer = c.read-answer.ensures;
-      meaning = meaning c.read-answer.result (g.K.Kind.relations c.args.kind.now) c.args.input.now (described c.read-answer.new.self) (All-from_get_or (λ b. b < 256) c.args.input.now 0 (λ i _. (c.type-inv.input i).fits)) c.read-answer.ensures;
-      cells = c.lay-cells.ensures.items ∙ ap empty_cells c.as-slice.ensures.value;
+      meaning = meaning c.read-answer.result (g.K.Kind.relations c.args.kind.now) c.args.input.now (described c.read-answer.new.self) (All-from_get_or (λ b. b < 256) c.args.input.now 0 (λ i _. (c.type_inv.input i).fits)) c.read-answer.ensures;
+      cells = c.lay_cells.ensures.items ∙ ap empty_cells c.as_slice.ensures.value;
     }

@@ -8,6 +8,6 @@ pub returns : goal.returns
 returns c =
     let d = c.args.self.now in
     record {
-      after = ap (λ l. with_applications (described d) (map application_of l)) c.push-reserved.ensures.items ∙ ap (with_applications (described d)) (map_push application_of (vec_items d.applications) c.args.x);
-      count = c.push-reserved.ensures.len;
+      after = ap (λ l. with_applications (described d) (map application_of l)) c.push_reserved.ensures.items ∙ ap (with_applications (described d)) (map_push application_of (vec_items d.applications) c.args.x);
+      count = c.push_reserved.ensures.len;
     }

@@ -7,18 +7,18 @@ use Rattle.reader.proofs.description.Description.read_fields.Goals as goal
 pub loop-at-init : goal.loop-at-init
 loop-at-init g c = (c.requires, length c.args.input.now, omega arith, refl)
 
-pub returns-in-err-at : goal.returns-in-err-at
-returns-in-err-at g c =
+pub returns-in_err-at : goal.returns-in_err-at
+returns-in_err-at g c =
     let r = g.K.Kind.relations c.args.kind.now in
     let s = reading_of c.loop-at.self c.loop-at.stage in
-    let stop = stops r c.args.input.now c.loop-at.invariant.1 s c.loop-at.at c.in-err-at.field-0.0 c.loop-at-test.true c.in-err-at.ensures in
-    refused_whole c.from-residual.result c.in-err-at.field-0.0 c.take-field.new.self _ c.from-residual.ensures.1 (sym c.loop-at.invariant.3 ∙ stop)
+    let stop = stops r c.args.input.now c.loop-at.invariant.1 s c.loop-at.at c.in_err-at.field-0.0 c.loop-at-test.true c.in_err-at.ensures in
+    refused_whole c.from_residual.result c.in_err-at.field-0.0 c.take_field.new.self _ c.from_residual.ensures.1 (sym c.loop-at.invariant.3 ∙ stop)
 
 pub loop-at-preserved : goal.loop-at-preserved
 loop-at-preserved g c =
     let r = g.K.Kind.relations c.args.kind.now in
     let s = reading_of c.loop-at.self c.loop-at.stage in
-    let goes = c.in-ok-at.ensures in
+    let goes = c.in_ok-at.ensures in
     let next = goes_on r c.args.input.now c.loop-at.invariant.1 s c.loop-at.at _ c.loop-at.invariant.2 c.loop-at-test.true goes.0 goes.2 in
     (goes.1, next.0, next.1, next.2 ∙ c.loop-at.invariant.3)
 

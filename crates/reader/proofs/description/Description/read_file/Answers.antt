@@ -7,23 +7,23 @@ use Rattle.reader.specs.Taken.{Ends}
 use Rattle.reader.proofs.FieldRuns.{header_fault, header_right, other_version, refused_whole}
 use Rattle.reader.proofs.description.Description.read_file.Goals as goal
 
-pub returns-in-err-header : goal.returns-in-err-header
-returns-in-err-header g c =
+pub returns-in_err-header : goal.returns-in_err-header
+returns-in_err-header g c =
     let r = g.K.Kind.relations c.args.kind.now in
-    let a = c.in-err-header.ensures.answer in
+    let a = c.in_err-header.ensures.answer in
     let faulty = header_fault r c.args.input.now a.0 a.1 ∙ ap (λ x. Err x) (sym a.2) in
-    refused_whole c.from-residual.result c.in-err-header.field-0.0 _ _ c.from-residual.ensures.1 faulty
+    refused_whole c.from_residual.result c.in_err-header.field-0.0 _ _ c.from_residual.ensures.1 faulty
 
 pub returns-then-header-ne1 : goal.returns-then-header-ne1
 returns-then-header-ne1 g c =
-    other_version (g.K.Kind.relations c.args.kind.now) c.args.input.now c.in-ok-header.header c.in-ok-header.ensures.answer c.if-header-ne1.true
+    other_version (g.K.Kind.relations c.args.kind.now) c.args.input.now c.in_ok-header.header c.in_ok-header.ensures.answer c.if-header-ne1.true
 
 pub returns : goal.returns
 returns g c =
     let r = g.K.Kind.relations c.args.kind.now in
     let input = c.args.input.now in
-    let h = c.in-ok-header.header in
+    let h = c.in_ok-header.header in
     let start : Description → Reading = λ d. record { last = Header; so_far = record { label = h.label; resources = d.resources; applications = d.applications; activities = d.activities; edges = d.edges }; current = None } in
-    subst (Ends c.read-fields.result c.read-fields.new.self)
-    (ap (λ d. reads r input (suc (length input)) (start d) 9) c.requires ∙ sym (header_right r input h c.in-ok-header.ensures.answer c.if-header-ne1.false))
-    c.read-fields.ensures
+    subst (Ends c.read_fields.result c.read_fields.new.self)
+    (ap (λ d. reads r input (suc (length input)) (start d) 9) c.requires ∙ sym (header_right r input h c.in_ok-header.ensures.answer c.if-header-ne1.false))
+    c.read_fields.ensures

@@ -18,11 +18,11 @@ returns g c =
     let r = g.K.Kind.relations c.args.kind.now in
     let draft = c.in-Application.draft in
     let t = reading_of d (Drafting draft) in
-    let x = point_said c.in-ok-field.field in
+    let x = point_said c.in_ok-field.field in
     let more = c.if-not-add.ensures.after refl in
     let some : eqb (length (points_of c.add.new.self.points)) 0 ≡ false = pushed_some (points_of draft.points) _ _ (ap current_points more) in
     let e : settled t Point ≡ Some t = cond-true _ _ _ (lt-ltb (length (points_of draft.points)) 20 (omega arith)) in
-    let f : field_at Point input at ≡ Ok x = ap (said point_said) c.in-ok-field.ensures.answer in
+    let f : field_at Point input at ≡ Ok x = ap (said point_said) c.in_ok-field.ensures.answer in
     let j : judged r t x at ≡ None = ap (λ b. unless b (OutOfLimits at)) (sym c.if-not-add.ensures.answer) in (
       ap (λ s. read_settled r input Point at (settled (reading_of d s) Point)) c.in-Application.is
           ∙ taken r input Point at (settled t Point) t x e f j
