@@ -9,10 +9,10 @@ use Rattle.plan.proofs.inner.Inner.read.Goals as goal
 pub invariant_of-self-2 : goal.invariant_of-self-2
 invariant_of-self-2 g c =
     let activities = vec_items c.read-answer.new.self.activities in
-    let laid = c.lay_cells.ensures.items ∙ ap empty_cells c.as_slice.ensures.value in (
-      omega (arith, c.lay_cells.ensures.capacity, c.clear.ensures.capacity, c.args.self.now.room),
-      ((λ _. ap (λ l. same_ids l (cell_ids 0 activities)) laid ∙ same_empty (cell_ids 0 activities)), tt),
-    )
+    let items = c.lay_cells.ensures.items ∙ ap empty_cells c.as_slice.ensures.value in record {
+      room = omega (arith, c.lay_cells.ensures.capacity, c.clear.ensures.capacity, c.args.self.now.room);
+      laid = λ _. ap (λ l. same_ids l (cell_ids 0 activities)) items ∙ same_empty (cell_ids 0 activities);
+    }
 
 pub returns : goal.returns
 returns g c =

@@ -18,19 +18,12 @@ invariant_of-self c =
     let resources : length (described d).resources ≡ vec_len d.resources = sym d.resources.ok.0 in
     let new : P x = (omega arith, omega arith, k.2, k.3) in
     let counted : d.cells + x.turns ≡ cell_count (vec_items v) =
-    ap (λ n. n + x.turns) d.counted ∙ sym (cell_count-push (vec_items d.activities) x) ∙ ap cell_count (sym c.push_reserved.ensures.items) in (
-      (omega arith, omega arith, omega arith, omega arith),
-      (
-        (omega arith, omega arith, omega arith, omega arith),
-        (
-          counted,
-          (
-            omega arith,
-            (
-              each_push P (vec_items d.activities) (vec_items v) x _ (vec_len d.activities) (vec_len v) d.activities.ok.0 c.push_reserved.ensures.len c.push_reserved.ensures.items d.activities_known new,
-              ((λ i h. ((d.edges_known i h).0, omega (arith, (d.edges_known i h).1))), tt),
-            ),
-          ),
-        ),
-      ),
-    )
+    ap (λ n. n + x.turns) d.counted ∙ sym (cell_count-push (vec_items d.activities) x) ∙ ap cell_count (sym c.push_reserved.ensures.items) in record {
+      room = (omega arith, omega arith, omega arith, omega arith);
+      few = (omega arith, omega arith, omega arith, omega arith);
+      counted = counted;
+      cells_few = omega arith;
+      activities_known =
+          each_push P (vec_items d.activities) (vec_items v) x _ (vec_len d.activities) (vec_len v) d.activities.ok.0 c.push_reserved.ensures.len c.push_reserved.ensures.items d.activities_known new;
+      edges_known = λ i h. ((d.edges_known i h).0, omega (arith, (d.edges_known i h).1));
+    }
