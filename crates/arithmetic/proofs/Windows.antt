@@ -1,5 +1,5 @@
 -- Overlaps over all occurrences: by the divisor of the repeats, by a finite test, and one repeat later.
-use Rattle.std.proofs.Common.{◌≡◌, ℕ, ◌+◌, ◌-◌, ◌*◌, ◌/◌, ◌%◌, ◌<◌, ◌≤◌, min, ◌⊎◌, sym, refl, ap, subst, ⊎_elim, mul-pos, arith}
+use Rattle.std.proofs.Common.{◌≡◌, ℕ, ◌+◌, ◌-◌, ◌*◌, ◌/◌, ◌%◌, ◌<◌, ◌≤◌, min, sym, refl, ap, subst, ⊎_elim, mul-pos, arith}
 use native.Mathlib.Nat.{div-mul_cancel, pos_of_dvd_of_pos}
 use Rattle.std.proofs.lemmas.Bool.{cases_lt}
 use Rattle.arithmetic.specs.Divisors.{Greatest, gcd}

@@ -1,5 +1,5 @@
 -- Endless repeating intervals, and when occurrences of two of them overlap. All times are whole microseconds.
-use Rattle.std.specs.Prelude.{◌≡◌, ℕ, ◌+◌, ◌*◌, ◌<◌, ◌≤◌, ◌≢◌}
+use Rattle.std.specs.Prelude.{ℕ, ◌+◌, ◌*◌, ◌<◌, ◌≤◌, ◌≢◌}
 
 pub record Repeating : Type 0 where
   pub start : ℕ

@@ -1,4 +1,6 @@
 // Whole-number arithmetic of endless repeating intervals: do two of them ever overlap?
+#![tactic(auto)]
+
 mod division;
 mod entry;
 mod euclid;

@@ -1,3 +1,5 @@
+#![tactic(auto)]
+
 // Tests of crate `arithmetic`: examples, limits from both sides, and a comparison with unrolled occurrences.
 #[cfg(test)]
 mod divisors;

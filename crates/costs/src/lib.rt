@@ -1,4 +1,6 @@
 // Cost tables: what each latency of an application costs.
+#![tactic(auto)]
+
 mod adding;
 mod gathering;
 mod point;

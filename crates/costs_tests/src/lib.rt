@@ -1,3 +1,5 @@
+#![tactic(auto)]
+
 // Tests of cost tables, and of offsets and starts.
 #[cfg(test)]
 mod starts;

@@ -1,5 +1,5 @@
 -- The fields of a plan file: which may follow which, and what each says.
-use Rattle.std.specs.Prelude.{ℕ, cond, List, Some, None, Ok, Err, Option, Result, ◌==◌}
+use Rattle.std.specs.Prelude.{ℕ, cond, List, Some, None, Err, Option, Result, ◌==◌}
 use Rattle.std.specs.Result.{result_map_both}
 use Rattle.fields.specs.declared.record.FieldFault.{FieldFault}
 use Rattle.fields.specs.declared.record.FieldFault.TheVariants.{Short, Tag, Length}

@@ -1,6 +1,6 @@
 -- What the bytes of a plan file say, field after field, and where they are refused. The law above this definition says that
 -- a file is accepted exactly when it is the written form of a description within its limits.
-use Rattle.std.specs.Prelude.{◌≡◌, ℕ, zero, suc, ◌+◌, Bool, true, false, cond, ◌&&◌, ◌||◌, List, [], ◌∷◌, ◌++◌, length, Some, None, Ok, Err, Option, Result, ◌==◌, nat_le, nat_lt, slice_index}
+use Rattle.std.specs.Prelude.{ℕ, zero, suc, ◌+◌, Bool, true, false, cond, ◌&&◌, ◌||◌, List, [], ◌∷◌, ◌++◌, length, Some, None, Ok, Err, Option, Result, ◌==◌, nat_le, nat_lt, slice_index}
 use Rattle.fields.specs.declared.record.FieldFault.{FieldFault}
 use Rattle.fields.specs.Fields.{reading}
 use Rattle.records.specs.Headers.{header_in}

@@ -1,5 +1,5 @@
 -- The written form of a description: its fields, in their order.
-use Rattle.std.specs.Prelude.{ℕ, List, [], ◌∷◌, ◌++◌, map}
+use Rattle.std.specs.Prelude.{ℕ, List, ◌∷◌, ◌++◌, map}
 use Rattle.std.specs.List.{flat_map}
 use Rattle.fields.specs.Fields.{field_of}
 use Rattle.records.specs.Headers.{header_bytes}

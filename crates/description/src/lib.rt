@@ -1,4 +1,6 @@
 // What a plan file says: the parts of a plan, their limits, and the order of its fields.
+#![tactic(auto)]
+
 mod field_kind;
 mod order;
 mod parts;

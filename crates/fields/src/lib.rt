@@ -1,4 +1,6 @@
 // Tagged fields: a tag byte, a length in two bytes, and a body. One trait, one reader and one writer for all kinds of field.
+#![tactic(auto)]
+
 mod reading;
 mod record;
 mod writing;

@@ -1,4 +1,6 @@
 // Kinds of resource: what one means, the laws that it keeps, and two side by side.
+#![tactic(auto)]
+
 mod beside;
 mod kind;
 mod laws;

@@ -1,4 +1,6 @@
 // The words of the subject: cells, offsets and starts, refusals, and the lines that answers are printed as.
+#![tactic(auto)]
+
 mod cell;
 mod line;
 mod numbers;

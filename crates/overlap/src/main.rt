@@ -1,4 +1,6 @@
 // overlap: do two endless repeating entries of a timing table ever overlap?
+#![tactic(auto)]
+
 mod answer;
 mod fault;
 mod pair;

@@ -1,4 +1,6 @@
 // A plan over any kind of resource, opened from a file.
+#![tactic(auto)]
+
 mod describing;
 mod inner;
 mod laying;

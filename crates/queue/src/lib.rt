@@ -1,5 +1,7 @@
 // A priority queue over a lent slice, for every kind of ranked record. The queue is the first places of the slice, as many
 // as the caller counts, kept as a binary heap; the places beyond are left alone.
+#![tactic(auto)]
+
 mod draining;
 mod keys;
 mod laws;

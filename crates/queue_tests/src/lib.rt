@@ -1,4 +1,6 @@
 // Users of crate `queue`: two record types, ranked by their keys, and tests with them. Nothing here speaks of heaps.
+#![tactic(auto)]
+
 mod records;
 
 pub use records::{Event, Ready};

@@ -1,7 +1,7 @@
 -- What is looked up in memory is what the description has there.
 use Rattle.std.proofs.Common.{◌≡◌, ℕ, ◌<◌, ◌≤◌, List, map, length, get_or, sym, ap, ◌∙◌, arith}
-use Rattle.std.proofs.lemmas.List.{get_or-map, get_or_past, get_or_read, length-map}
-use Rattle.description.specs.Descriptions.{Application, no_application}
+use Rattle.std.proofs.lemmas.List.{get_or-map, get_or_past, length-map}
+use Rattle.description.specs.Descriptions.{no_application}
 use Rattle.reader.specs.declared.application.Application.{Application as Stored}
 use Rattle.reader.specs.Described.{application_of}
 

@@ -1,5 +1,5 @@
 -- One application more, if there may be one.
-use Rattle.std.proofs.Common.{◌≡◌, ℕ, Bool, true, false, cond, ltb, length, Some, None, Option, sym, ap, ◌∙◌}
+use Rattle.std.proofs.Common.{◌≡◌, ℕ, true, false, cond, ltb, length, Some, None, Option, sym, ap, ◌∙◌}
 use Rattle.description.specs.declared.field_kind.FieldKind.{FieldKind}
 use Rattle.description.specs.Reader.{Reading, if_fewer, if_more_applications}
 use Rattle.reader.specs.declared.description.Description.{Description as Memory}

@@ -1,5 +1,5 @@
 -- What a value in memory describes.
-use Rattle.std.specs.Prelude.{◌≡◌, ℕ, ◌<◌, Bool, true, false, cond, List, [], map, length, Some, None, vec_items, vec_len, Option, ◌==◌}
+use Rattle.std.specs.Prelude.{◌<◌, cond, map, length, Some, None, vec_items, vec_len, Option, ◌==◌}
 use Rattle.costs.specs.Tables.{points_of, table_points}
 use Rattle.description.specs.declared.field_kind.FieldKind.{FieldKind}
 use Rattle.description.specs.declared.field_kind.FieldKind.TheVariants.{Header as after_header, Resource as after_resource, Application as after_application, Point as after_point, Activity as after_activity, Edge as after_edge}

@@ -1,4 +1,6 @@
 // Reading a plan file into memory that was obtained before.
+#![tactic(auto)]
+
 mod active;
 mod activities;
 mod application;

@@ -1,4 +1,6 @@
 // The seven kinds of field of plan files and table files.
+#![tactic(auto)]
+
 mod activity;
 mod application;
 mod cell;

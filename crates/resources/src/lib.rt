@@ -1,4 +1,6 @@
 // The kinds of resource that ship: cores, links and buses.
+#![tactic(auto)]
+
 mod cores;
 mod laws;
 mod links;

@@ -1,4 +1,4 @@
-use Rattle.std.proofs.Common.{◌≡◌, ◌+◌, map, take, vec_items, vec_len, vec_capacity}
+use Rattle.std.proofs.Common.{◌≡◌, take, vec_items, vec_len, vec_capacity}
 use Rattle.description.specs.Limits.{cell_count}
 use Rattle.plan.specs.Cells.{empty_cells}
 use Rattle.plan.proofs.laying.lay_cells.Given as goal

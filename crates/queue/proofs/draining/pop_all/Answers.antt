@@ -1,4 +1,4 @@
-use Rattle.std.proofs.Common.{◌-◌, ◌<◌, length, arith, rules}
+use Rattle.std.proofs.Common.{◌<◌, length, arith, rules}
 use Rattle.queue.proofs.Drains.{steps, ends}
 use Rattle.queue.proofs.draining.pop_all.Goals as goal
 

@@ -1,4 +1,4 @@
-use Rattle.std.proofs.Common.{◌-◌, length, sym, ◌∙◌, subst, arith}
+use Rattle.std.proofs.Common.{length, sym, ◌∙◌, subst, arith}
 use Rattle.std.specs.BinaryHeap.Sift.{IsGreaterChild}
 use Rattle.std.proofs.HeapSift as sifts
 use Rattle.std.proofs.Permutation.{as_core}

@@ -1,8 +1,7 @@
-use Rattle.std.proofs.Common.{◌≡◌, suc, length, None, Err, sym, ap, ◌∙◌, subst}
+use Rattle.std.proofs.Common.{suc, length, None, Err, sym, ap, ◌∙◌, subst}
 use Rattle.description.specs.Descriptions.{Description}
 use Rattle.description.specs.declared.field_kind.FieldKind.TheVariants.{Header}
 use Rattle.description.specs.Reader.{Reading, reads}
-use Rattle.reader.specs.Described.{described}
 use Rattle.reader.specs.Taken.{Ends}
 use Rattle.reader.proofs.FieldRuns.{header_fault, header_right, other_version, refused_whole}
 use Rattle.reader.proofs.description.Description.read_file.Goals as goal

@@ -6,7 +6,7 @@ use Rattle.description.specs.declared.field_kind.FieldKind.TheVariants.{Applicat
 use Rattle.description.specs.Forms.{field_at, point_said, said}
 use Rattle.description.specs.Reader.{current_points, judged, read_settled, settled, unless}
 use Rattle.reader.specs.declared.stage.Stage.TheVariants.{Application as Drafting}
-use Rattle.reader.specs.Described.{described, drafted, reading_of, Roomy}
+use Rattle.reader.specs.Described.{described, reading_of, Roomy}
 use Rattle.reader.proofs.FieldSteps.{pushed_some, taken}
 use Rattle.reader.proofs.description.Description.take_point.Goals as goal
 
