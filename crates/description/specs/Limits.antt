@@ -1,6 +1,6 @@
 -- Every limit of a plan, each stated once. Limits of a point stand with the cost tables.
 use Rattle.std.specs.Prelude.{◌≡◌, ℕ, zero, suc, ◌+◌, ◌*◌, ◌^◌, ◌<◌, ◌≤◌, Bool, true, false, ◌&&◌, ◌||◌, List, [], ◌∷◌, length, is_some, ◌==◌, nat_le, nat_lt}
-use Rattle.std.specs.List.{AllByRecursion as All}
+use Rattle.std.specs.List.{AllByRecursion}
 use Rattle.kinds.specs.Relations.{Relations}
 use Rattle.costs.specs.Costs.{last_latency, points_right}
 use Rattle.description.specs.declared.parts.Resource.{Resource}
@@ -82,21 +82,21 @@ pub record Within (r : Relations) (d : Description) : Type 0 where
   pub label_fits : d.label < 2 ^ 32
   pub some_resources : 1 ≤ length d.resources
   pub few_resources : length d.resources ≤ most_resources
-  pub resources_right : All (λ x. resource_right r x ≡ true) d.resources
-  pub kinds_fit : All (λ x. x.kind < 2 ^ 16) d.resources
-  pub numbers_fit : All (λ x. (length x.numbers ≡ 4) × All (λ n. n < 2 ^ 32) x.numbers) d.resources
+  pub resources_right : AllByRecursion (λ x. resource_right r x ≡ true) d.resources
+  pub kinds_fit : AllByRecursion (λ x. x.kind < 2 ^ 16) d.resources
+  pub numbers_fit : AllByRecursion (λ x. (length x.numbers ≡ 4) × AllByRecursion (λ n. n < 2 ^ 32) x.numbers) d.resources
   pub some_applications : 1 ≤ length d.applications
   pub few_applications : length d.applications ≤ most_applications
-  pub timings_right : All (λ a. timing_right a.period a.bound ≡ true) d.applications
-  pub few_points : All (λ a. length a.points ≤ most_points) d.applications
-  pub points_rise : All (λ a. points_right a.points ≡ true) d.applications
-  pub tables_right : All (λ a. table_right a ≡ true) d.applications
+  pub timings_right : AllByRecursion (λ a. timing_right a.period a.bound ≡ true) d.applications
+  pub few_points : AllByRecursion (λ a. length a.points ≤ most_points) d.applications
+  pub points_rise : AllByRecursion (λ a. points_right a.points ≡ true) d.applications
+  pub tables_right : AllByRecursion (λ a. table_right a ≡ true) d.applications
   pub some_activities : 1 ≤ length d.activities
   pub few_activities : length d.activities ≤ most_activities
-  pub activities_right : All (λ a. activity_right d a ≡ true) d.activities
-  pub demands_taken : All (λ a. demand_taken r d a ≡ true) d.activities
-  pub senders_fit : All (λ a. a.sender ≤ 255) d.activities
+  pub activities_right : AllByRecursion (λ a. activity_right d a ≡ true) d.activities
+  pub demands_taken : AllByRecursion (λ a. demand_taken r d a ≡ true) d.activities
+  pub senders_fit : AllByRecursion (λ a. a.sender ≤ 255) d.activities
   pub applications_active : (i : ℕ) → i < length d.applications → has_activity i d.activities ≡ true
   pub few_cells : cell_count d.activities ≤ most_cells
   pub few_edges : length d.edges ≤ most_edges
-  pub edges_right : All (λ e. edge_right d e ≡ true) d.edges
+  pub edges_right : AllByRecursion (λ e. edge_right d e ≡ true) d.edges

@@ -1,6 +1,6 @@
 -- Numbers of one, two and four bytes as pieces of a list of bytes, and back.
 use Rattle.std.proofs.Common.{◌≡◌, ℕ, ◌+◌, ◌*◌, ◌/◌, ◌%◌, ◌^◌, ◌<◌, List, [], ◌∷◌, ◌++◌, length, get_or, drop, sym, ap, ◌∙◌, append-nil, add-one, arith, drop-cons}
-use Rattle.std.specs.List.{AllByRecursion as All}
+use Rattle.std.specs.List.{AllByRecursion}
 use Rattle.std.proofs.ByRecursion.{All-get_or}
 use Rattle.std.proofs.lemmas.List.{drop_all}
 use Rattle.fields.specs.Bytes.{two_at, four_at, two_of, four_of}
@@ -28,7 +28,7 @@ four_again a b c d ha hb hc hd =
 pub one_piece : (xs : List ℕ) (i : ℕ) → i < length xs → get_or xs i 0 ∷ drop (i + 1) xs ≡ drop i xs
 one_piece xs i lt = ap (λ j. get_or xs i 0 ∷ drop j xs) (add-one i) ∙ sym (drop-cons xs i 0 lt)
 
-module _ (xs : List ℕ) (bytes : All (λ b. b < 256) xs) where
+module _ (xs : List ℕ) (bytes : AllByRecursion (λ b. b < 256) xs) where
   byte : (i : ℕ) → i < length xs → get_or xs i 0 < 256
   byte i lt = All-get_or (λ b. b < 256) xs i 0 lt bytes
 

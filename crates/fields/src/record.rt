@@ -1,6 +1,6 @@
 // What one kind of field holds.
 ghost use Rattle.std.specs.Prelude.{◌≡◌, ℕ, ◌<◌, List, length};
-ghost use Rattle.std.specs.List.{AllByRecursion as All};
+ghost use Rattle.std.specs.List.{AllByRecursion};
 
 #[derive(Clone, Copy, PartialEq, Eq, Debug)]
 pub enum FieldFault {
@@ -52,5 +52,5 @@ pub trait Record: Sized {
     ghost back: { (x : Self) → fits x → parse (bytes x) ≡ x };
 
     // What is read, written again, gives the same bytes.
-    ghost again: { (xs : List ℕ) → length xs ≡ len → All (λ b. b < 256) xs → bytes (parse xs) ≡ xs };
+    ghost again: { (xs : List ℕ) → length xs ≡ len → AllByRecursion (λ b. b < 256) xs → bytes (parse xs) ≡ xs };
 }

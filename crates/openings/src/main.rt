@@ -1,4 +1,6 @@
 // openings: opens one plan after the other. Each line of standard input is a plan file in hexadecimal.
+#![tactic(auto)]
+
 mod hex;
 
 use hex::bytes_of;

@@ -1,4 +1,6 @@
 // check: is plan.bin, in the folder where it is started, a plan?
+#![tactic(auto)]
+
 use anyhow::anyhow;
 use plan::{Plan, opening_line};
 use resources::standard_kinds;

@@ -9,7 +9,7 @@ use Rattle.std.specs.BinaryHeap.Sift.{SiftsUp, SiftsDown, RestoresHeap}
 use Rattle.std.proofs.HeapSift as sifts
 use Rattle.std.proofs.Permutation.{every_at}
 use Rattle.std.proofs.ByRecursion.{All-from_get_or, all_shuffled}
-use Rattle.std.specs.List.{AllByRecursion as All}
+use Rattle.std.specs.List.{AllByRecursion}
 use Rattle.std.proofs.lemmas.List.Sorted.{IsPermutation-trans, IsPermutation-sym, IsPermutation-cons, IsPermutation-to_front, length_permutation}
 use Rattle.std.proofs.lemmas.List.{take_more, get_or_read, drop_all, take_at, drop_at, get_or_at, get_or_append_left}
 use Rattle.queue.specs.Heaps.{Heaped, First, order, Pushed, Popped}
@@ -53,9 +53,9 @@ module _ {X : Type 0} (before : X → X → Bool) (k : Ranking before) where
       }
 
   -- what no record ranks before ranks before all that is left
-  others_after : (q left : List X) (n : ℕ) (x : X) → n ≤ length q → IsPermutation (take n q) (x ∷ left) → First before x q n → All (λ y. before y x ≡ false) left
+  others_after : (q left : List X) (n : ℕ) (x : X) → n ≤ length q → IsPermutation (take n q) (x ∷ left) → First before x q n → AllByRecursion (λ y. before y x ≡ false) left
   others_after q left n x le same first =
-      let all : All (λ y. before y x ≡ false) (take n q) =
+      let all : AllByRecursion (λ y. before y x ≡ false) (take n q) =
       All-from_get_or (λ y. before y x ≡ false) (take n q) x
       (λ i p. let lt : i < n = omega (arith, length-take n q) in ap (λ y. before y x) (get_or-take n q i x lt) ∙ first i x lt) in
       (all_shuffled (λ y. before y x ≡ false) (take n q) (x ∷ left) same all).1

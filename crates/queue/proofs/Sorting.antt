@@ -1,7 +1,7 @@
 -- A list in the order of rank is the only one with its elements.
 use Rattle.std.proofs.Common.{◌≡◌, ℕ, ◌+◌, Bool, true, false, cond, List, [], ◌∷◌, sum_by, sym, refl, ap, ◌∙◌, arith}
 use Rattle.std.specs.List.Sorted.{IsPermutation}
-use Rattle.std.specs.List.{AllByRecursion as All}
+use Rattle.std.specs.List.{AllByRecursion}
 use Rattle.std.proofs.ByRecursion.{All-weaker}
 use Rattle.std.proofs.lemmas.List.Sums.{sum_by-cons}
 use Rattle.std.proofs.lemmas.List.Sorted.{sum_by-IsPermutation}
@@ -17,15 +17,15 @@ module _ {X : Type 0} (before : X → X → Bool) where
   abbrev early : X → X → ℕ
   early x z = cond (before z x) 1 0
 
-  none_early : (x : X) (xs : List X) → All (λ y. before y x ≡ false) xs → sum_by (early x) xs ≡ 0
+  none_early : (x : X) (xs : List X) → AllByRecursion (λ y. before y x ≡ false) xs → sum_by (early x) xs ≡ 0
   none_early x [] h = refl
   none_early x (y ∷ ys) h = sum_by-cons (early x) y ys ∙ (λ i. cond (h.0 i) 1 0 + none_early x ys h.1 i)
 
-  all_insert : (P : X → Type 0) (x : X) (xs : List X) → P x → All P xs → All P (insert before x xs)
+  all_insert : (P : X → Type 0) (x : X) (xs : List X) → P x → AllByRecursion P xs → AllByRecursion P (insert before x xs)
   all_insert P x [] p h = (p, tt)
   all_insert P x (y ∷ ys) p h = by (before y x) (all_insert P x ys p h.1)
     where
-      by : (b : Bool) → All P (insert before x ys) → All P (cond b (y ∷ insert before x ys) (x ∷ y ∷ ys))
+      by : (b : Bool) → AllByRecursion P (insert before x ys) → AllByRecursion P (cond b (y ∷ insert before x ys) (x ∷ y ∷ ys))
       by true r = (h.0, r)
       by false r = (p, h)
 
@@ -102,12 +102,12 @@ module _ {X : Type 0} (before : X → X → Bool) where
     pub ranked_shuffled : (xs ys : List X) → IsPermutation xs ys → ranked before ys ≡ ranked before xs
     ranked_shuffled xs ys h = is_ranked xs (ranked before ys) (λ f. shuffled_same xs ys h f ∙ ranked_same ys f) (ranked_sorted ys)
 
-    all_ranked : (P : X → Type 0) (xs : List X) → All P xs → All P (ranked before xs)
+    all_ranked : (P : X → Type 0) (xs : List X) → AllByRecursion P xs → AllByRecursion P (ranked before xs)
     all_ranked P [] h = tt
     all_ranked P (x ∷ xs) h = all_insert P x (ranked before xs) h.0 (all_ranked P xs h.1)
 
     -- where none ranks before x, the order begins with it
-    pub ranked_first : (xs ys : List X) (x : X) → IsPermutation xs (x ∷ ys) → All (λ y. before y x ≡ false) ys → ranked before xs ≡ x ∷ ranked before ys
+    pub ranked_first : (xs ys : List X) (x : X) → IsPermutation xs (x ∷ ys) → AllByRecursion (λ y. before y x ≡ false) ys → ranked before xs ≡ x ∷ ranked before ys
     ranked_first xs ys x h first =
         sym (is_ranked xs (x ∷ ranked before ys)
         (λ f. shuffled_same xs (x ∷ ys) h f ∙ sum_by-cons f x ys ∙ ap (λ n. f x + n) (ranked_same ys f) ∙ sym (sum_by-cons f x (ranked before ys)))

@@ -1,6 +1,6 @@
 -- What the reader accepts is the written form of a description within its limits.
 use Rattle.std.proofs.Common.{◌≡◌, ℕ, zero, suc, ◌+◌, ◌^◌, ◌<◌, ◌≤◌, Bool, true, false, cond, eqb, ltb, List, ◌++◌, length, get_or, drop, Some, None, Ok, Err, Option, Result, sym, refl, ap, ◌∙◌, subst, arith}
-use Rattle.std.specs.List.{flat_map, AllByRecursion as All}
+use Rattle.std.specs.List.{flat_map, AllByRecursion}
 use Rattle.std.proofs.lemmas.List.{append-nil, append_assoc, drop_all, flat_map_more}
 use Rattle.std.proofs.lemmas.Bool.{eqb-true, ltb-false}
 use Rattle.std.proofs.lemmas.Bool.Decides.{Decides-below_and}
@@ -29,7 +29,7 @@ record Stepped (r : Relations) (input : List ℕ) (s : Reading) (at : ℕ) (v : 
   grown_by : Grew r s.so_far s.current x v.reading_is
   bytes_are : drop at input ≡ field_bytes x ++ drop v.place input
 
-module _ (r : Relations) (input : List ℕ) (small : All (λ b. b < 256) input) (s : Reading) (at : ℕ) (h : Right r s.so_far s.current) (g : Stage s.last s.so_far s.current) where
+module _ (r : Relations) (input : List ℕ) (small : AllByRecursion (λ b. b < 256) input) (s : Reading) (at : ℕ) (h : Right r s.so_far s.current) (g : Stage s.last s.so_far s.current) where
   -- inwards through the reader of one field, to the way on which it is accepted
   step_accepted : (k : FieldKind) (t : Reading) (x : PlanField) (o : Option Refusal) (v : Reached) → next_kind s.last (get_or input at 0) ≡ Some k → settled s k ≡ Some t → Taken k input at x
       → judged r t x at ≡ o → accepted t x (at + field_size k) o ≡ Ok v → Stepped r input s at v
@@ -116,7 +116,7 @@ written_more r s x t g =
     flat_map_more field_bytes (field_of 72 6 (header_bytes (record { version = 1; label = s.so_far.label }))) (fields_of (whole s.so_far s.current)) x
     ∙ (λ i. field_of 72 6 (header_bytes (record { version = 1; label = label i })) ++ flat_map field_bytes (more i))
 
-module _ (r : Relations) (input : List ℕ) (small : All (λ b. b < 256) input) (d : Description) where
+module _ (r : Relations) (input : List ℕ) (small : AllByRecursion (λ b. b < 256) input) (d : Description) where
   -- read from any place where what comes before it is the written form of what has been described
   abbrev GoesOn : (Reading → ℕ → Result Description Refusal) → Reading → ℕ → Type 0
   GoesOn next s at =
@@ -176,6 +176,6 @@ module _ (r : Relations) (input : List ℕ) (small : All (λ b. b < 256) input) 
       reads_written (suc (length input)) (begun h.label) 9 (begun_right h.label there.1) (refl, refl, refl)
       (there.0 ∙ ap (λ v. field_of 72 6 (header_bytes (record { version = v; label = h.label })) ++ drop 9 input) one) p.1
 
-pub accepted_is_written : (r : Relations) (input : List ℕ) → All (λ b. b < 256) input → (d : Description) → opened r input ≡ Ok d → (input ≡ written d) × Within r d
+pub accepted_is_written : (r : Relations) (input : List ℕ) → AllByRecursion (λ b. b < 256) input → (d : Description) → opened r input ≡ Ok d → (input ≡ written d) × Within r d
 unfolding opened
 accepted_is_written r input small d e = after_header r input small d (reading 72 6 header_in input 0) refl e

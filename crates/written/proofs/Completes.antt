@@ -1,6 +1,6 @@
 -- The written form of a description within its limits is accepted.
 use Rattle.std.proofs.Common.{◌≡◌, ℕ, zero, suc, ◌+◌, ◌*◌, ◌^◌, ◌<◌, ◌≤◌, true, cond, ◌&&◌, eqb, ltb, leb, List, [], ◌∷◌, ◌++◌, map, length, get_or, Some, None, Ok, Err, Option, Result, sym, refl, ap, ◌∙◌, subst, append_assoc, append-nil, arith, lit<, length-append}
-use Rattle.std.specs.List.{flat_map, AllByRecursion as All}
+use Rattle.std.specs.List.{flat_map, AllByRecursion}
 use Rattle.std.proofs.ByRecursion.{All-get_or}
 use Rattle.std.proofs.lemmas.Bool.{lt-ltb, ltb-true, leb-true, le-leb, cond-true, and_parts, and_from, or_right}
 use Rattle.fields.specs.declared.record.FieldFault.{FieldFault}
@@ -43,12 +43,12 @@ module _ {X : Type 0} where
   after_some k l (x ∷ xs) h = refl
 
   -- what holds of each element holds of one in the middle
-  all_here : (P : X → Type 0) (xs : List X) (x : X) (ys : List X) → All P (xs ++ x ∷ ys) → P x
+  all_here : (P : X → Type 0) (xs : List X) (x : X) (ys : List X) → AllByRecursion P (xs ++ x ∷ ys) → P x
   all_here P [] x ys h = h.0
   all_here P (y ∷ xs) x ys h = all_here P xs x ys h.1
 
-  all_at : (P : X → Type 0) (all xs : List X) (x : X) (ys : List X) → xs ++ x ∷ ys ≡ all → All P all → P x
-  all_at P all xs x ys e h = all_here P xs x ys (subst (All P) (sym e) h)
+  all_at : (P : X → Type 0) (all xs : List X) (x : X) (ys : List X) → xs ++ x ∷ ys ≡ all → AllByRecursion P all → P x
+  all_at P all xs x ys e h = all_here P xs x ys (subst (AllByRecursion P) (sym e) h)
 
   fewer : (all xs : List X) (x : X) (ys : List X) → xs ++ x ∷ ys ≡ all → length xs < length all
   fewer all xs x ys e = omega (arith, ap length e, length-append xs (x ∷ ys))
@@ -118,7 +118,7 @@ module _ (r : Relations) (d : Description) (w : Within r d) where
       → Step r (with_resources d done) (a_resource x) (with_resources d (done ++ x ∷ []))
   resource_step done x more e =
       let all = d.resources in
-      let numbers = all_at (λ y. (length y.numbers ≡ 4) × All (λ n. n < 2 ^ 32) y.numbers) all done x more e w.numbers_fit in
+      let numbers = all_at (λ y. (length y.numbers ≡ 4) × AllByRecursion (λ n. n < 2 ^ 32) y.numbers) all done x more e w.numbers_fit in
       let number : (i : ℕ) → i < 4 → get_or x.numbers i 0 < 2 ^ 32 = λ i lt. All-get_or (λ n. n < 2 ^ 32) x.numbers i 0 (omega arith) numbers.1 in
       record {
         fits = (all_at (λ y. y.kind < 2 ^ 16) all done x more e w.kinds_fit, numbers.0, number 0 (omega arith), number 1 (omega arith), number 2 (omega arith), number 3 (omega arith));
@@ -134,7 +134,7 @@ module _ (r : Relations) (d : Description) (w : Within r d) where
       allowed (y ∷ l) = refl
 
   module _ (done : List ApplicationPart) (a : ApplicationPart) (more : List ApplicationPart) (e : done ++ a ∷ more ≡ d.applications) where
-    of_application : (P : ApplicationPart → Type 0) → All P d.applications → P a
+    of_application : (P : ApplicationPart → Type 0) → AllByRecursion P d.applications → P a
     of_application P h = all_at P d.applications done a more e h
 
     table_is_right : table_right a ≡ true

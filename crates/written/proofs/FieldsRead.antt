@@ -1,6 +1,6 @@
 -- What a reader of one field accepts is that field's bytes.
 use Rattle.std.proofs.Common.{◌≡◌, ℕ, ◌+◌, ◌-◌, ◌^◌, ◌<◌, ◌≤◌, Bool, true, false, cond, List, ◌∷◌, ◌++◌, length, get_or, drop, Ok, Err, Result, sym, refl, ap, ◌∙◌, subst, arith}
-use Rattle.std.specs.List.{between, AllByRecursion as All}
+use Rattle.std.specs.List.{between, AllByRecursion}
 use Rattle.std.proofs.ByRecursion.{All-get_or, All-take, All-drop}
 use Rattle.std.proofs.lemmas.List.{drop-drop, length-take, length-drop, take-append-drop}
 use Rattle.std.proofs.lemmas.Bool.{eqb-true, ltb-false}
@@ -62,14 +62,14 @@ found tag len parse input at x e =
 body_length : (input : List ℕ) (at len : ℕ) → at + 3 + len ≤ length input → length (between (at + 3) (at + 3 + len) input) ≡ len
 body_length input at len inside = length-take (at + 3 + len - (at + 3)) (drop (at + 3) input) ∙ omega (arith, length-drop (at + 3) input)
 
-body_small : (input : List ℕ) (at len : ℕ) → All (λ b. b < 256) input → All (λ b. b < 256) (between (at + 3) (at + 3 + len) input)
+body_small : (input : List ℕ) (at len : ℕ) → AllByRecursion (λ b. b < 256) input → AllByRecursion (λ b. b < 256) (between (at + 3) (at + 3 + len) input)
 body_small input at len small =
     All-take (λ b. b < 256) (at + 3 + len - (at + 3)) (drop (at + 3) input) (All-drop (λ b. b < 256) (at + 3) input small)
 
 -- a field read is the bytes of what it says, where reading a body and writing it again gives the same bytes
 field_read : {R : Type 0} (tag len : ℕ) (parse : List ℕ → R) (bytes : R → List ℕ)
-    → ((xs : List ℕ) → length xs ≡ len → All (λ b. b < 256) xs → bytes (parse xs) ≡ xs)
-    → (input : List ℕ) → All (λ b. b < 256) input → (at : ℕ) (x : R) → Found tag len parse input at x
+    → ((xs : List ℕ) → length xs ≡ len → AllByRecursion (λ b. b < 256) xs → bytes (parse xs) ≡ xs)
+    → (input : List ℕ) → AllByRecursion (λ b. b < 256) input → (at : ℕ) (x : R) → Found tag len parse input at x
     → drop at input ≡ field_of tag len (bytes x) ++ drop (at + 3 + len) input
 field_read tag len parse bytes again input small at x f =
     let tag_there = f.tag_is in
@@ -90,11 +90,11 @@ field_read tag len parse bytes again input small at x f =
     three = omega arith
 
 -- numbers read fit their bytes
-two_fits : (xs : List ℕ) (i : ℕ) → All (λ b. b < 256) xs → i + 1 < length xs → two_at xs i < 2 ^ 16
+two_fits : (xs : List ℕ) (i : ℕ) → AllByRecursion (λ b. b < 256) xs → i + 1 < length xs → two_at xs i < 2 ^ 16
 two_fits xs i h lt =
     omega (arith, All-get_or (λ b. b < 256) xs i 0 (omega arith) h, All-get_or (λ b. b < 256) xs (i + 1) 0 lt h)
 
-four_fits : (xs : List ℕ) (i : ℕ) → All (λ b. b < 256) xs → i + 3 < length xs → four_at xs i < 2 ^ 32
+four_fits : (xs : List ℕ) (i : ℕ) → AllByRecursion (λ b. b < 256) xs → i + 3 < length xs → four_at xs i < 2 ^ 32
 four_fits xs i h lt =
     omega (arith, All-get_or (λ b. b < 256) xs i 0 (omega arith) h, All-get_or (λ b. b < 256) xs (i + 1) 0 (omega arith) h, All-get_or (λ b. b < 256) xs (i + 2) 0 (omega arith) h, All-get_or (λ b. b < 256) xs (i + 3) 0 lt h)
 
@@ -107,7 +107,7 @@ kind_of (an_edge x) = Edge
 
 -- what no limit bounds fits its bytes
 abbrev pub Fits : PlanField → Type 0
-Fits (a_resource x) = (x.kind < 2 ^ 16) × (length x.numbers ≡ 4) × All (λ n. n < 2 ^ 32) x.numbers
+Fits (a_resource x) = (x.kind < 2 ^ 16) × (length x.numbers ≡ 4) × AllByRecursion (λ n. n < 2 ^ 32) x.numbers
 Fits (a_timing x) = Unit
 Fits (a_point x) = Unit
 Fits (an_activity x) = x.sender ≤ 255
@@ -123,13 +123,13 @@ said_ok : {X : Type 0} (f : X → PlanField) (a : Result X FieldFault) (p : Plan
 said_ok f (Ok x) p h = (x, refl, ok_same (f x) p h)
 said_ok f (Err e) p h = no_ok e p h
 
-module _ (input : List ℕ) (small : All (λ b. b < 256) input) (at : ℕ) where
+module _ (input : List ℕ) (small : AllByRecursion (λ b. b < 256) input) (at : ℕ) where
   -- a field that one kind of reader gives
   taken : {X : Type 0} (k : FieldKind) (tag len : ℕ) (parse : List ℕ → X) (bytes : X → List ℕ) (f : X → PlanField)
-      → ((xs : List ℕ) → length xs ≡ len → All (λ b. b < 256) xs → bytes (parse xs) ≡ xs)
+      → ((xs : List ℕ) → length xs ≡ len → AllByRecursion (λ b. b < 256) xs → bytes (parse xs) ≡ xs)
       → ((x : X) → field_bytes (f x) ≡ field_of tag len (bytes x))
       → ((x : X) → kind_of (f x) ≡ k)
-      → ((xs : List ℕ) → length xs ≡ len → All (λ b. b < 256) xs → Fits (f (parse xs)))
+      → ((xs : List ℕ) → length xs ≡ len → AllByRecursion (λ b. b < 256) xs → Fits (f (parse xs)))
       → field_size k ≡ 3 + len
       → (p : PlanField) → said f (reading tag len parse input at) ≡ Ok p → Taken k input at p
   taken k tag len parse bytes f again form kind fit size p e =
@@ -159,7 +159,7 @@ module _ (input : List ℕ) (small : All (λ b. b < 256) input) (at : ℕ) where
   field_taken Edge p e = taken Edge 69 4 edge_in edge_bytes edge_said edge_again (λ x. refl) (λ x. refl) (λ xs l h. tt) refl p e
 
 -- the header at the beginning
-pub header_taken : (input : List ℕ) → All (λ b. b < 256) input → (h : HeaderField) → reading 72 6 header_in input 0 ≡ Ok h
+pub header_taken : (input : List ℕ) → AllByRecursion (λ b. b < 256) input → (h : HeaderField) → reading 72 6 header_in input 0 ≡ Ok h
     → (input ≡ field_of 72 6 (header_bytes h) ++ drop 9 input) × (h.label < 2 ^ 32)
 header_taken input small h e =
     let there = found 72 6 header_in input 0 h e in

@@ -1,6 +1,6 @@
 -- What holds of a reader part of the way, and that each field it accepts keeps it.
 use Rattle.std.proofs.Common.{◌≡◌, ℕ, ◌+◌, ◌^◌, ◌<◌, ◌≤◌, Bool, true, false, cond, ◌||◌, eqb, ltb, List, [], ◌∷◌, ◌++◌, map, length, Some, None, Option, sym, refl, ap, ◌∙◌, subst, ⊎_elim, arith}
-use Rattle.std.specs.List.{flat_map, AllByRecursion as All}
+use Rattle.std.specs.List.{flat_map, AllByRecursion}
 use Rattle.std.proofs.ByRecursion.{All-push}
 use Rattle.std.proofs.lemmas.List.{append-nil, append_assoc, flat_map_more, length_push, map_push}
 use Rattle.std.proofs.lemmas.Bool.{and_parts, and_from, or_cases, leb-true, ltb-true}
@@ -37,16 +37,16 @@ whole_none d = ap (with_applications d) (append-nil d.applications)
 abbrev pub ResourcesRight : Relations → List ResourcePart → Type 0
 ResourcesRight r xs =
     (length xs ≤ most_resources)
-    × All (λ x. resource_right r x ≡ true) xs
-    × All (λ x. x.kind < 2 ^ 16) xs
-    × All (λ x. (length x.numbers ≡ 4) × All (λ n. n < 2 ^ 32) x.numbers) xs
+    × AllByRecursion (λ x. resource_right r x ≡ true) xs
+    × AllByRecursion (λ x. x.kind < 2 ^ 16) xs
+    × AllByRecursion (λ x. (length x.numbers ≡ 4) × AllByRecursion (λ n. n < 2 ^ 32) x.numbers) xs
 
 abbrev pub ApplicationsRight : List ApplicationPart → Type 0
 ApplicationsRight xs =
-    All (λ a. timing_right a.period a.bound ≡ true) xs
-    × All (λ a. length a.points ≤ most_points) xs
-    × All (λ a. points_right a.points ≡ true) xs
-    × All (λ a. table_right a ≡ true) xs
+    AllByRecursion (λ a. timing_right a.period a.bound ≡ true) xs
+    × AllByRecursion (λ a. length a.points ≤ most_points) xs
+    × AllByRecursion (λ a. points_right a.points ≡ true) xs
+    × AllByRecursion (λ a. table_right a ≡ true) xs
 
 -- its table need not be right before it is complete
 abbrev pub CurrentRight : Option ApplicationPart → Type 0
@@ -56,13 +56,13 @@ CurrentRight (Some a) = (timing_right a.period a.bound ≡ true) × (length a.po
 abbrev pub ActivitiesRight : Relations → Description → Type 0
 ActivitiesRight r d =
     (length d.activities ≤ most_activities)
-    × All (λ a. activity_right d a ≡ true) d.activities
-    × All (λ a. demand_taken r d a ≡ true) d.activities
-    × All (λ a. a.sender ≤ 255) d.activities
+    × AllByRecursion (λ a. activity_right d a ≡ true) d.activities
+    × AllByRecursion (λ a. demand_taken r d a ≡ true) d.activities
+    × AllByRecursion (λ a. a.sender ≤ 255) d.activities
     × (cell_count d.activities ≤ most_cells)
 
 abbrev pub EdgesRight : Description → Type 0
-EdgesRight d = (length d.edges ≤ most_edges) × All (λ e. edge_right d e ≡ true) d.edges
+EdgesRight d = (length d.edges ≤ most_edges) × AllByRecursion (λ e. edge_right d e ≡ true) d.edges
 
 pub record Right (r : Relations) (d : Description) (c : Option ApplicationPart) : Type 0 where
   pub label_fits : d.label < 2 ^ 32
@@ -151,8 +151,8 @@ late_in front ys rest y e = ap (λ l. front ++ l) (late ys rest y e) ∙ sym (ap
 joined_push : {X A : Type 0} (f : X → List A) (xs : List X) (x : X) → flat_map f (xs ++ x ∷ []) ≡ flat_map f xs ++ f x
 joined_push f xs x = sym (flat_map_more f [] xs x)
 
-all_none : {X : Type 0} (P : X → Type 0) (xs : List X) → xs ≡ [] → All P xs
-all_none P xs e = subst (All P) (sym e) tt
+all_none : {X : Type 0} (P : X → Type 0) (xs : List X) → xs ≡ [] → AllByRecursion P xs
+all_none P xs e = subst (AllByRecursion P) (sym e) tt
 
 cells_push : (xs : List ActivityPart) (x : ActivityPart) → cell_count (xs ++ x ∷ []) ≡ cell_count xs + x.turns
 cells_push [] x = omega arith
@@ -176,7 +176,7 @@ module _ (r : Relations) (last : FieldKind) (d : Description) where
             omega arith,
             All-push (λ x. resource_right r x ≡ true) rs x h.resources_right.1 sound,
             All-push (λ x. x.kind < 2 ^ 16) rs x h.resources_right.2 fits.0,
-            All-push (λ x. (length x.numbers ≡ 4) × All (λ n. n < 2 ^ 32) x.numbers) rs x h.resources_right.3 (fits.1, fits.2),
+            All-push (λ x. (length x.numbers ≡ 4) × AllByRecursion (λ n. n < 2 ^ 32) x.numbers) rs x h.resources_right.3 (fits.1, fits.2),
           );
           few_applications = h.few_applications;
           applications_right = h.applications_right;
