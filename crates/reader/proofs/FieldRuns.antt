@@ -11,7 +11,7 @@ use Rattle.model.specs.declared.refusal.Refusal.TheVariants.{OutOfLimits}
 use Rattle.description.specs.Descriptions.{Description}
 use Rattle.description.specs.Forms.{fault_refusal}
 use Rattle.description.specs.Reader.{Reading, Reached, begun, one_field, ended, reads, opened}
-use Rattle.reader.specs.declared.description.Description.{Description as Memory}
+use Rattle.reader.specs.declared.memory.Description.{Description as Memory}
 use Rattle.reader.specs.Taken.{Ends}
 
 module _ (r : Relations) (input : List ℕ) where

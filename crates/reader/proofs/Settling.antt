@@ -2,7 +2,7 @@
 use Rattle.std.proofs.Common.{◌≡◌, ℕ, true, false, cond, ltb, length, Some, None, Option, sym, ap, ◌∙◌}
 use Rattle.description.specs.declared.field_kind.FieldKind.{FieldKind}
 use Rattle.description.specs.Reader.{Reading, if_fewer, if_more_applications}
-use Rattle.reader.specs.declared.description.Description.{Description as Memory}
+use Rattle.reader.specs.declared.memory.Description.{Description as Memory}
 use Rattle.reader.specs.Described.{described}
 use Rattle.reader.specs.Taken.{Completes}
 

@@ -6,7 +6,7 @@ use Rattle.description.specs.declared.field_kind.FieldKind.TheVariants.{Header a
 use Rattle.description.specs.Descriptions.{Application, Description}
 use Rattle.description.specs.Reader.{Reading}
 use Rattle.reader.specs.declared.application.Application.{Application as Stored}
-use Rattle.reader.specs.declared.description.Description.{Description as Memory}
+use Rattle.reader.specs.declared.memory.Description.{Description as Memory}
 use Rattle.reader.specs.declared.stage.Draft.{Draft}
 use Rattle.reader.specs.declared.stage.Stage.{Stage}
 use Rattle.reader.specs.declared.stage.Stage.TheVariants.{Header, Resource, Application as Drafting, Activity, Edge}

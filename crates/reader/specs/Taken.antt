@@ -6,7 +6,7 @@ use Rattle.description.specs.Descriptions.{Description}
 use Rattle.description.specs.Forms.{fault_refusal}
 use Rattle.description.specs.declared.field_kind.FieldKind.{FieldKind}
 use Rattle.description.specs.Reader.{Reading, Reached}
-use Rattle.reader.specs.declared.description.Description.{Description as Memory}
+use Rattle.reader.specs.declared.memory.Description.{Description as Memory}
 use Rattle.reader.specs.declared.stage.Stage.{Stage}
 use Rattle.reader.specs.Described.{described, reading_of, Roomy}
 

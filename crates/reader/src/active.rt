@@ -4,7 +4,7 @@ ghost use Rattle.description.specs.Limits.{all_active, has_activity};
 ghost use Rattle.description.specs.Reader.{active};
 ghost use Rattle.reader.specs.Described.{described};
 
-use crate::description::Description;
+use crate::memory::Description;
 use description::Activity;
 
 // Whether some activity belongs to the application.

@@ -7,7 +7,7 @@ ghost use Rattle.description.specs.Descriptions.{activity_at, application_at};
 ghost use Rattle.description.specs.Limits.{activity_right, among as among?, demand_taken, edge_right};
 ghost use Rattle.reader.specs.Described.{described, reading_of};
 
-use crate::description::Description;
+use crate::memory::Description;
 use crate::stage::Stage;
 use description::{Activity, Edge};
 use kinds::Kind;

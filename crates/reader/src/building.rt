@@ -3,7 +3,7 @@ ghost use Rattle.std.specs.Prelude.{◌≡◌, IfOk};
 ghost use Rattle.description.specs.Descriptions.{nothing};
 ghost use Rattle.reader.specs.Described.{described};
 
-use crate::description::Description;
+use crate::memory::Description;
 use std::alloc::{AllocError, Global};
 
 impl Description {

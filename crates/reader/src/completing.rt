@@ -4,7 +4,7 @@ ghost use Rattle.description.specs.Reader.{completed, is_edge, settled};
 ghost use Rattle.reader.specs.Described.{Roomy, current_of, described, last_of, reading_of};
 ghost use Rattle.reader.specs.Taken.{Completes};
 
-use crate::description::Description;
+use crate::memory::Description;
 use crate::stage::Stage;
 use description::FieldKind;
 

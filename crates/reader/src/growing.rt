@@ -6,7 +6,7 @@ ghost use Rattle.reader.specs.Described.{application_of, described};
 ghost use Rattle.reader.specs.Grown.{with_activity, with_edge, with_resource};
 
 use crate::application::Application;
-use crate::description::Description;
+use crate::memory::Description;
 use description::{Activity, Edge, Resource};
 
 impl Description {

@@ -6,14 +6,14 @@ mod activities;
 mod application;
 mod building;
 mod completing;
-mod description;
 mod drafting;
 mod fetching;
 mod growing;
+mod memory;
 mod reading;
 mod stage;
 mod steps;
 mod taking;
 
 pub use application::Application;
-pub use description::Description;
+pub use memory::Description;

@@ -6,8 +6,8 @@ ghost use Rattle.reader.specs.Answered.{Answers};
 ghost use Rattle.reader.specs.Described.{Roomy, described, reading_of};
 ghost use Rattle.reader.specs.Taken.{Ends};
 
-use crate::description::Description;
 use crate::fetching::fetch;
+use crate::memory::Description;
 use crate::stage::Stage;
 use kinds::Kind;
 use model::Refusal;

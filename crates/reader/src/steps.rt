@@ -4,7 +4,7 @@ ghost use Rattle.description.specs.Reader.{ended, one_field};
 ghost use Rattle.reader.specs.Described.{Roomy, last_of, reading_of};
 ghost use Rattle.reader.specs.Taken.{Ends, Goes};
 
-use crate::description::Description;
+use crate::memory::Description;
 use crate::stage::Stage;
 use description::FieldKind;
 use fields::tag_at;

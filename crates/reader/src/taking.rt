@@ -5,8 +5,8 @@ ghost use Rattle.description.specs.Reader.{read_settled, settled};
 ghost use Rattle.reader.specs.Described.{Roomy, current_of, reading_of};
 ghost use Rattle.reader.specs.Taken.{Goes};
 
-use crate::description::Description;
 use crate::fetching::fetch;
+use crate::memory::Description;
 use crate::stage::{Draft, Stage};
 use costs::Point;
 use description::{Activity, Edge, FieldKind, Resource};

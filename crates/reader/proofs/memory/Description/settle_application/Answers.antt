@@ -2,7 +2,7 @@ use Rattle.std.proofs.Common.{vec_items, sym, ◌∙◌, rules}
 use Rattle.std.proofs.lemmas.List.{length-map}
 use Rattle.reader.specs.Described.{application_of}
 use Rattle.reader.proofs.Settling.{settled_application}
-use Rattle.reader.proofs.description.Description.settle_application.Goals as goal
+use Rattle.reader.proofs.memory.Description.settle_application.Goals as goal
 
 pub returns-then-complete : goal.returns-then-complete
 returns-then-complete c =

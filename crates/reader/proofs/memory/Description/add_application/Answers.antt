@@ -2,7 +2,7 @@ use Rattle.std.proofs.Common.{map, vec_items, ap, ◌∙◌}
 use Rattle.std.proofs.lemmas.List.{map_push}
 use Rattle.description.specs.Reader.{with_applications}
 use Rattle.reader.specs.Described.{application_of, described}
-use Rattle.reader.proofs.description.Description.add_application.Goals as goal
+use Rattle.reader.proofs.memory.Description.add_application.Goals as goal
 
 pub returns : goal.returns
 returns c =

@@ -1,7 +1,7 @@
 use Rattle.std.proofs.Common.{◌≡◌, ℕ, suc, ◌+◌, ◌-◌, ◌≤◌, length}
 use Rattle.description.specs.Reader.{reads}
 use Rattle.reader.specs.Described.{reading_of, Roomy}
-use Rattle.reader.proofs.description.Description.read_fields.Given as goal
+use Rattle.reader.proofs.memory.Description.read_fields.Given as goal
 
 -- with some bound that is not used up, what is left gives the answer of the whole
 abbrev pub invariant-loop-at : goal.invariant-loop-at

@@ -8,7 +8,7 @@ use Rattle.description.specs.Reader.{current_points, judged, read_settled, settl
 use Rattle.reader.specs.declared.stage.Stage.TheVariants.{Application as Drafting}
 use Rattle.reader.specs.Described.{described, reading_of, Roomy}
 use Rattle.reader.proofs.FieldSteps.{pushed_some, taken}
-use Rattle.reader.proofs.description.Description.take_point.Goals as goal
+use Rattle.reader.proofs.memory.Description.take_point.Goals as goal
 
 pub returns : goal.returns
 returns g c =

@@ -6,7 +6,7 @@ use Rattle.description.specs.Forms.{field_at, resource_said, said}
 use Rattle.description.specs.Reader.{judged, settled, unless}
 use Rattle.reader.specs.Described.{reading_of}
 use Rattle.reader.proofs.FieldSteps.{taken}
-use Rattle.reader.proofs.description.Description.take_resource.Goals as goal
+use Rattle.reader.proofs.memory.Description.take_resource.Goals as goal
 
 pub returns : goal.returns
 returns g c =

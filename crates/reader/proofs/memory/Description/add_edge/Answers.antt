@@ -3,7 +3,7 @@ use Rattle.description.specs.declared.parts.Edge.{Edge}
 use Rattle.reader.specs.Described.{described}
 use Rattle.reader.specs.Known.{KnownEdge}
 use Rattle.reader.proofs.Pushing.{each_push, right_is_known_edge}
-use Rattle.reader.proofs.description.Description.add_edge.Goals as goal
+use Rattle.reader.proofs.memory.Description.add_edge.Goals as goal
 
 pub invariant_of-self : goal.invariant_of-self
 invariant_of-self c =

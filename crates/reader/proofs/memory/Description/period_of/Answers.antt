@@ -1,7 +1,7 @@
 use Rattle.std.proofs.Common.{vec_items, sym, ap, arith}
 use Rattle.description.specs.Descriptions.{Application}
 use Rattle.reader.proofs.Lookups.{application_past, application_read}
-use Rattle.reader.proofs.description.Description.period_of.Goals as goal
+use Rattle.reader.proofs.memory.Description.period_of.Goals as goal
 
 pub returns-then-application-len : goal.returns-then-application-len
 returns-then-application-len c =

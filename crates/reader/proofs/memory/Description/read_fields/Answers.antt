@@ -2,7 +2,7 @@ use Rattle.std.proofs.Common.{length, sym, refl, ◌∙◌, subst, arith}
 use Rattle.reader.specs.Described.{reading_of}
 use Rattle.reader.specs.Taken.{Ends}
 use Rattle.reader.proofs.FieldRuns.{ends, goes_on, refused_whole, stops}
-use Rattle.reader.proofs.description.Description.read_fields.Goals as goal
+use Rattle.reader.proofs.memory.Description.read_fields.Goals as goal
 
 pub loop-at-init : goal.loop-at-init
 loop-at-init g c = (c.requires, length c.args.input.now, omega arith, refl)

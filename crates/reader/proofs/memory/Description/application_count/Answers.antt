@@ -1,7 +1,7 @@
 use Rattle.std.proofs.Common.{vec_items, sym, ◌∙◌}
 use Rattle.std.proofs.lemmas.List.{length-map}
 use Rattle.reader.specs.Described.{application_of}
-use Rattle.reader.proofs.description.Description.application_count.Goals as goal
+use Rattle.reader.proofs.memory.Description.application_count.Goals as goal
 
 pub returns : goal.returns
 returns c =

@@ -5,7 +5,7 @@ use Rattle.description.specs.Limits.{cell_count}
 use Rattle.reader.specs.Described.{application_of, described}
 use Rattle.reader.specs.Known.{KnownActivity}
 use Rattle.reader.proofs.Pushing.{cell_count-push, each_push, right_is_known}
-use Rattle.reader.proofs.description.Description.add_activity.Goals as goal
+use Rattle.reader.proofs.memory.Description.add_activity.Goals as goal
 
 pub invariant_of-self : goal.invariant_of-self
 invariant_of-self c =

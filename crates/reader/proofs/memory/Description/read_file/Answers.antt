@@ -4,7 +4,7 @@ use Rattle.description.specs.declared.field_kind.FieldKind.TheVariants.{Header}
 use Rattle.description.specs.Reader.{Reading, reads}
 use Rattle.reader.specs.Taken.{Ends}
 use Rattle.reader.proofs.FieldRuns.{header_fault, header_right, other_version, refused_whole}
-use Rattle.reader.proofs.description.Description.read_file.Goals as goal
+use Rattle.reader.proofs.memory.Description.read_file.Goals as goal
 
 pub returns-in_err-header : goal.returns-in_err-header
 returns-in_err-header g c =
