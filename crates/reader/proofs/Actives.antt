@@ -1,25 +1,29 @@
--- One activity, and one application, after the other.
-use Rattle.std.proofs.Common.{◌≡◌, ℕ, zero, suc, ◌+◌, ◌-◌, ◌<◌, ◌≤◌, true, false, ◌&&◌, ◌||◌, eqb, List, length, drop, sym, ap, ◌∙◌, arith}
-use Rattle.std.proofs.lemmas.List.{at_drop_more, at_drop_all}
-use Rattle.std.proofs.lemmas.Bool.{eq-eqb, ne_eqb}
+-- Activities among a list, and applications one after the other.
+use Rattle.std.proofs.Common.{◌≡◌, ℕ, zero, suc, ◌+◌, Bool, true, false, ◌&&◌, ◌||◌, eqb, List, [], ◌∷◌, sym, refl, ap, ◌∙◌, arith}
+use Rattle.std.specs.List.{list_any, list_all, range_with_len}
+use Rattle.std.proofs.Math.Bool.{and-true, and_assoc}
 use Rattle.description.specs.declared.parts.Activity.{Activity}
-use Rattle.description.specs.Descriptions.{no_activity}
 use Rattle.description.specs.Limits.{has_activity, all_active}
-use Rattle.reader.specs.Known.{activity_of}
 
-module _ (i : ℕ) (xs : List Activity) (k : ℕ) (inv : has_activity i (drop k xs) ≡ has_activity i xs) where
-  here : k < length xs → has_activity i (drop k xs) ≡ (eqb (activity_of xs k).application i || has_activity i (drop (k + 1) xs))
-  here lt = at_drop_more (has_activity i) xs k no_activity lt
+pub any_active : (i : ℕ) (xs : List Activity) → list_any (λ a. eqb a.application i) xs ≡ has_activity i xs
+any_active i [] = refl
+any_active i (a ∷ xs) = ap (λ b. eqb a.application i || b) (any_active i xs)
 
-  pub found_here : k < length xs → (activity_of xs k).application ≡ i → true ≡ has_activity i xs
-  found_here lt e = sym (ap (λ b. b || has_activity i (drop (k + 1) xs)) (eq-eqb (activity_of xs k).application i e)) ∙ sym (here lt) ∙ inv
+and_swaps : (a b c : Bool) → (a && (b && c)) ≡ (b && (a && c))
+and_swaps true b c = refl
+and_swaps false true c = refl
+and_swaps false false c = refl
 
-  pub not_here : k < length xs → ((activity_of xs k).application ≡ i → ⊥) → has_activity i (drop (k + 1) xs) ≡ has_activity i xs
-  not_here lt e = sym (ap (λ b. b || has_activity i (drop (k + 1) xs)) (ne_eqb (activity_of xs k).application i e)) ∙ sym (here lt) ∙ inv
+-- one after the other from the first on, as from the last on
+each_from : (n k : ℕ) (xs : List Activity) → (list_all (λ i. has_activity i xs) (range_with_len k n) && all_active k xs) ≡ all_active (k + n) xs
+each_from zero k xs = ap (λ m. all_active m xs) (let e : k ≡ k + 0 = omega arith in e)
+each_from (suc n) k xs =
+    let rest = list_all (λ i. has_activity i xs) (range_with_len (k + 1) n) in
+    and_assoc (has_activity k xs) rest (all_active k xs)
+    ∙ and_swaps (has_activity k xs) rest (all_active k xs)
+    ∙ ap (λ m. rest && all_active m xs) (let e : suc k ≡ k + 1 = omega arith in e)
+    ∙ each_from n (k + 1) xs
+    ∙ ap (λ m. all_active m xs) (let e : k + 1 + n ≡ k + suc n = omega arith in e)
 
-  pub nowhere : length xs ≤ k → false ≡ has_activity i xs
-  nowhere le = sym (at_drop_all (has_activity i) xs k le) ∙ inv
-
-pub active_step : (n : ℕ) (xs : List Activity) → 0 < n → all_active n xs ≡ (has_activity (n - 1) xs && all_active (n - 1) xs)
-active_step zero xs lt = absurd (omega arith)
-active_step (suc n) xs lt = let e : n ≡ suc n - 1 = omega arith in ap (λ m. has_activity m xs && all_active m xs) e
+pub each_active : (n : ℕ) (xs : List Activity) → list_all (λ i. has_activity i xs) (range_with_len 0 n) ≡ all_active n xs
+each_active n xs = sym (and-true (list_all (λ i. has_activity i xs) (range_with_len 0 n))) ∙ each_from n 0 xs ∙ ap (λ m. all_active m xs) (let e : 0 + n ≡ n = omega arith in e)

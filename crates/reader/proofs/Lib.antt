@@ -1,6 +1,4 @@
 pub mod Actives
-pub mod Lookups
 pub mod Pushing
 pub mod FieldSteps
-pub mod Settling
 pub mod FieldRuns

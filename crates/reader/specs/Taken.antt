@@ -1,7 +1,8 @@
 -- What a step of the reader does, for its private functions.
-use Rattle.std.specs.Prelude.{◌≡◌, ℕ, ◌<◌, Bool, true, false, Some, None, Ok, Err, Option, Result}
+use Rattle.std.specs.Prelude.{◌≡◌, ℕ, ◌<◌, Some, None, Ok, Err, Option, Result}
 use Rattle.fields.specs.declared.record.FieldFault.{FieldFault}
 use Rattle.model.specs.declared.refusal.Refusal.{Refusal}
+use Rattle.model.specs.declared.refusal.Refusal.TheVariants.{WrongCount}
 use Rattle.description.specs.Descriptions.{Description}
 use Rattle.description.specs.Forms.{fault_refusal}
 use Rattle.description.specs.declared.field_kind.FieldKind.{FieldKind}
@@ -25,7 +26,7 @@ abbrev pub Ends : Result (Unit {0}) Refusal → Memory → Result Description Re
 Ends (Ok x) d answer = answer ≡ Ok (described d)
 Ends (Err e) d answer = answer ≡ Err e
 
--- the application that was being read is among the others now, or its cost table is not right
-abbrev pub Completes : Bool → FieldKind → Memory → Option Reading → Type 0
-Completes true last d complete = complete ≡ Some (record { last = last; so_far = described d; current = None })
-Completes false last d complete = complete ≡ None
+-- the application that was being read is among the others now, or it is refused here, since its cost table is not right
+abbrev pub Completes : Result (Unit {0}) Refusal → ℕ → FieldKind → Memory → Option Reading → Type 0
+Completes (Ok x) at last d complete = complete ≡ Some (record { last = last; so_far = described d; current = None })
+Completes (Err e) at last d complete = (complete ≡ None) × (e ≡ WrongCount at)

@@ -3,60 +3,33 @@ ghost use Rattle.std.specs.Prelude.{◌≡◌, ◌+◌, ◌<◌, ◌≤◌, true
 ghost use Rattle.std.specs.Result.{result_err};
 ghost use Rattle.description.specs.PlanFields.{an_activity};
 ghost use Rattle.description.specs.Reader.{judged};
-ghost use Rattle.description.specs.Descriptions.{activity_at, application_at};
-ghost use Rattle.description.specs.Limits.{activity_right, among as among?, demand_taken, edge_right};
+ghost use Rattle.description.specs.Limits.{activity_right, demand_taken, edge_right};
 ghost use Rattle.reader.specs.Described.{described, reading_of};
 
+use crate::field::Field;
 use crate::memory::Description;
 use crate::stage::Stage;
 use description::{Activity, Edge};
 use kinds::Kind;
 use model::Refusal;
 
-fn among(low: u32, high: u32, n: u32) -> bool
-    ensures { result ≡ among? low high n }
-{
-    low <= n && n <= high
-}
-
 impl Description {
-    pub(crate) fn application_count(&self) -> usize
+    pub fn application_count(&self) -> usize
         ensures { result ≡ length (described self.now).applications }
     {
         self.applications.len()
-    }
-
-    // The period of an application, or 0.
-    fn period_of(&self, application: usize) -> u32
-        ensures { result ≡ (application_at (described self.now) application).period }
-    {
-        if application < self.applications.len() {
-            self.applications[application].period
-        } else {
-            0
-        }
-    }
-
-    // The application of an activity, or 0.
-    fn application_of(&self, activity: usize) -> u8
-        ensures { result ≡ (activity_at (described self.now) activity).application }
-    {
-        if activity < self.activities.len() {
-            self.activities[activity].application
-        } else {
-            0
-        }
     }
 
     // Whether the activity is within its limits, and its application and resource are known.
     pub(crate) fn activity_right(&self, x: Activity) -> bool
         ensures { result ≡ activity_right (described self.now) x }
     {
-        (x.application as usize) < self.application_count()
+        let application = x.application as usize;
+        application < self.applications.len()
             && (x.resource as usize) < self.resources.len()
-            && among(1, 64, x.turns as u32)
-            && among(1, 1_000_000, x.demand)
-            && x.jitter < self.period_of(x.application as usize)
+            && (1..=64).contains(&x.turns)
+            && (1..=1_000_000).contains(&x.demand)
+            && x.jitter < self.applications[application].period
     }
 
     // Whether the activity's resource takes its demand.
@@ -65,29 +38,28 @@ impl Description {
         ensures { result ≡ demand_taken (K.Kind.relations kind.now) (described self.now) x }
     {
         let resource = self.resources[x.resource as usize];
-        let numbers = resource.numbers;
-        kind.span(resource.kind, numbers, x.demand).is_some()
+        kind.span(resource.kind, resource.numbers, x.demand)
+            .is_some()
     }
 
     // Whether there may be such an activity more: its limits, then its demand, then the number of cells.
     pub(crate) fn judge_activity<K: Kind>(
         &self,
-        kind: &K,
         x: Activity,
-        at: usize,
+        field: &Field<'_, K>,
     ) -> Result<(), Refusal>
-        ensures answer { result_err result ≡ judged (K.Kind.relations kind.now) (reading_of self.now Stage.Activity) (an_activity x) at }
+        ensures answer { result_err result ≡ judged (K.Kind.relations field.now.kind.now) (reading_of self.now Stage.Activity) (an_activity x) field.now.at }
         ensures right { is_ok result ≡ true → activity_right (described self.now) x ≡ true }
         ensures cells { is_ok result ≡ true → self.now.cells + x.turns ≤ 2048 }
     {
         if !self.activity_right(x) {
-            return Err(Refusal::OutOfLimits(at as u64));
+            return Err(Refusal::OutOfLimits(field.place()));
         }
-        if !self.demand_taken(kind, x) {
-            return Err(Refusal::DemandNotTaken(at as u64));
+        if !self.demand_taken(field.kind, x) {
+            return Err(Refusal::DemandNotTaken(field.place()));
         }
         if self.cells + x.turns as usize > 2048 {
-            return Err(Refusal::WrongCount(at as u64));
+            return Err(Refusal::WrongCount(field.place()));
         }
         Ok(())
     }
@@ -96,8 +68,10 @@ impl Description {
     pub(crate) fn edge_right(&self, x: Edge) -> bool
         ensures { result ≡ edge_right (described self.now) x }
     {
-        x.from < x.to
-            && (x.to as usize) < self.activities.len()
-            && self.application_of(x.from as usize) == self.application_of(x.to as usize)
+        let from = x.from as usize;
+        let to = x.to as usize;
+        from < to
+            && to < self.activities.len()
+            && self.activities[from].application == self.activities[to].application
     }
 }

@@ -1,5 +1,5 @@
 // An application while its points are being read.
-ghost use Rattle.std.specs.Prelude.{◌≡◌, ◌<◌, true, false, [], length, if◌then◌else◌, Some, None, MatchOption};
+ghost use Rattle.std.specs.Prelude.{◌≡◌, ◌<◌, true, false, [], length, if◌then◌else◌, Some, None, is_ok, MatchOption};
 ghost use Rattle.std.specs.Option.{option_map};
 ghost use Rattle.costs.specs.Costs.{may_follow};
 ghost use Rattle.costs.specs.Tables.{points_of};
@@ -9,14 +9,14 @@ ghost use Rattle.reader.specs.Described.{application_of, drafted, last_of};
 
 use crate::application::Application;
 use crate::stage::{Draft, Stage};
-use costs::{CostTable, Point, Points};
+use costs::{CostTable, Point, PointFault, Points};
 use description::FieldKind;
 
 // Whether a period and a latency bound are within their limits.
 fn timing_right(period: u32, bound: u32) -> bool
     ensures { result ≡ timing_right period bound }
 {
-    (100 <= period && period <= 1_000_000) && (1 <= bound && bound as u64 <= 2 * period as u64)
+    (100..=1_000_000).contains(&period) && (1..=2 * u64::from(period)).contains(&u64::from(bound))
 }
 
 impl Draft {
@@ -38,22 +38,27 @@ impl Draft {
     pub(crate) fn complete(self) -> Option<Application>
         ensures { option_map application_of result ≡ (if table_right (drafted self) then Some (drafted self) else None) }
     {
-        let costs = CostTable::of(self.points)?;
-        if costs.last_latency() < self.bound {
+        let Draft {
+            period,
+            bound,
+            points,
+        } = self;
+        let costs = CostTable::of(points)?;
+        if costs.last_latency() < bound {
             return None;
         }
         Some(Application {
-            period: self.period,
-            bound: self.bound,
+            period,
+            bound,
             costs,
         })
     }
 
     // One point more, if it may follow; there must be room for it.
-    pub(crate) fn add(&mut self, point: Point) -> bool
+    pub(crate) fn add(&mut self, point: Point) -> Result<(), PointFault>
         requires { length (points_of self.old.points) < 20 }
-        ensures answer { result ≡ may_follow (points_of self.old.points) point }
-        ensures after { result ≡ true → Some (drafted self.new) ≡ with_point (Some (drafted self.old)) point }
+        ensures answer { is_ok result ≡ may_follow (points_of self.old.points) point }
+        ensures after { is_ok result ≡ true → Some (drafted self.new) ≡ with_point (Some (drafted self.old)) point }
     {
         self.points.push(point)
     }

@@ -7,7 +7,7 @@ mod application;
 mod building;
 mod completing;
 mod drafting;
-mod fetching;
+mod field;
 mod growing;
 mod memory;
 mod reading;

@@ -6,7 +6,7 @@ ghost use Rattle.reader.specs.Answered.{Answers};
 ghost use Rattle.reader.specs.Described.{Roomy, described, reading_of};
 ghost use Rattle.reader.specs.Taken.{Ends};
 
-use crate::fetching::fetch;
+use crate::field::Field;
 use crate::memory::Description;
 use crate::stage::Stage;
 use kinds::Kind;
@@ -26,8 +26,9 @@ impl Description {
         ensures { Ends result self.new (reads (K.Kind.relations kind.now) input.now (suc (length input.now)) (reading_of self.old stage.old) start) }
     {
         let mut at = start;
+        // Kept: where the next field begins is known only once this one is read, so there is no range to go over.
         while at < input.len() {
-            at = self.take_field(stage, kind, input, at)?;
+            at = self.take_field(stage, &Field { kind, input, at })?;
         }
         self.end(stage, at)
     }
@@ -37,9 +38,10 @@ impl Description {
         requires { described self.old ≡ nothing }
         ensures { Ends result self.new (opened (K.Kind.relations kind.now) input.now) }
     {
-        let header = fetch::<Header>(input, 0)?;
+        let first = Field { kind, input, at: 0 };
+        let header = first.fetch::<Header>()?;
         if header.version != 1 {
-            return Err(Refusal::OutOfLimits(0));
+            return Err(Refusal::OutOfLimits(first.place()));
         }
         self.label = header.label;
         let mut stage = Stage::Header;

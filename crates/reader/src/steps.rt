@@ -4,6 +4,7 @@ ghost use Rattle.description.specs.Reader.{ended, one_field};
 ghost use Rattle.reader.specs.Described.{Roomy, last_of, reading_of};
 ghost use Rattle.reader.specs.Taken.{Ends, Goes};
 
+use crate::field::Field;
 use crate::memory::Description;
 use crate::stage::Stage;
 use description::FieldKind;
@@ -27,27 +28,25 @@ impl Stage {
 }
 
 impl Description {
-    // The field that begins at `at`; answers where the next one begins.
+    // Takes the field; answers where the next one begins.
     pub(crate) fn take_field<K: Kind>(
         &mut self,
         stage: &mut Stage,
-        kind: &K,
-        input: &[u8],
-        at: usize,
+        field: &Field<'_, K>,
     ) -> Result<usize, Refusal>
         requires { Roomy self.old stage.old }
-        ensures { Goes result at self.new stage.new (one_field (K.Kind.relations kind.now) input.now (reading_of self.old stage.old) at) }
+        ensures { Goes result field.now.at self.new stage.new (one_field (K.Kind.relations field.now.kind.now) field.now.input.now (reading_of self.old stage.old) field.now.at) }
     {
-        let Ok(tag) = tag_at(input, at) else {
-            return Err(Refusal::EndsEarly(at as u64));
+        let Ok(tag) = tag_at(field.input, field.at) else {
+            return Err(Refusal::EndsEarly(field.place()));
         };
         match stage.last().next(tag) {
-            Some(FieldKind::Resource) => self.take_resource(stage, kind, input, at),
-            Some(FieldKind::Application) => self.take_application(stage, kind, input, at),
-            Some(FieldKind::Point) => self.take_point(stage, kind, input, at),
-            Some(FieldKind::Activity) => self.take_activity(stage, kind, input, at),
-            Some(FieldKind::Edge) => self.take_edge(stage, kind, input, at),
-            Some(FieldKind::Header) | None => Err(Refusal::WrongTag(at as u64)),
+            Some(FieldKind::Resource) => self.take_resource(stage, field),
+            Some(FieldKind::Application) => self.take_application(stage, field),
+            Some(FieldKind::Point) => self.take_point(stage, field),
+            Some(FieldKind::Activity) => self.take_activity(stage, field),
+            Some(FieldKind::Edge) => self.take_edge(stage, field),
+            Some(FieldKind::Header) | None => Err(Refusal::WrongTag(field.place())),
         }
     }
 
@@ -56,14 +55,9 @@ impl Description {
         ensures { Ends result self.now (ended (reading_of self.now stage.now) at) }
     {
         match *stage {
-            Stage::Activity => {
-                if self.is_active() {
-                    Ok(())
-                } else {
-                    Err(Refusal::WrongCount(at as u64))
-                }
-            }
             Stage::Edge => Ok(()),
+            Stage::Activity if self.is_active() => Ok(()),
+            Stage::Activity => Err(Refusal::WrongCount(at as u64)),
             _ => Err(Refusal::EndsEarly(at as u64)),
         }
     }

@@ -5,7 +5,7 @@ ghost use Rattle.description.specs.Reader.{read_settled, settled};
 ghost use Rattle.reader.specs.Described.{Roomy, current_of, reading_of};
 ghost use Rattle.reader.specs.Taken.{Goes};
 
-use crate::fetching::fetch;
+use crate::field::Field;
 use crate::memory::Description;
 use crate::stage::{Draft, Stage};
 use costs::Point;
@@ -18,129 +18,113 @@ impl Description {
     pub(crate) fn take_resource<K: Kind>(
         &mut self,
         stage: &mut Stage,
-        kind: &K,
-        input: &[u8],
-        at: usize,
+        field: &Field<'_, K>,
     ) -> Result<usize, Refusal>
         requires { current_of stage.old ≡ None }
-        ensures { Goes result at self.new stage.new (read_settled (K.Kind.relations kind.now) input.now FieldKind.Resource at (settled (reading_of self.old stage.old) FieldKind.Resource)) }
+        ensures { Goes result field.now.at self.new stage.new (read_settled (K.Kind.relations field.now.kind.now) field.now.input.now FieldKind.Resource field.now.at (settled (reading_of self.old stage.old) FieldKind.Resource)) }
     {
-        if self.resources.len() >= 32 {
-            return Err(Refusal::WrongCount(at as u64));
-        }
-        let field = fetch::<ResourceField>(input, at)?;
-        let numbers = field.numbers;
-        if !kind.sound(field.kind, numbers) {
-            return Err(Refusal::UnsoundResource(at as u64));
+        field.allow_one_more(self.resources.len(), 32)?;
+        let said = field.fetch::<ResourceField>()?;
+        let numbers = said.numbers;
+        if !field.kind.sound(said.kind, numbers) {
+            return Err(Refusal::UnsoundResource(field.place()));
         }
         self.add_resource(Resource {
-            kind: field.kind,
+            kind: said.kind,
             numbers,
         });
         *stage = Stage::Resource;
-        Ok(at + 21)
+        Ok(field.at + 21)
     }
 
     pub(crate) fn take_application<K: Kind>(
         &mut self,
         stage: &mut Stage,
-        kind: &K,
-        input: &[u8],
-        at: usize,
+        field: &Field<'_, K>,
     ) -> Result<usize, Refusal>
         requires { Roomy self.old stage.old }
-        ensures { Goes result at self.new stage.new (read_settled (K.Kind.relations kind.now) input.now FieldKind.Application at (settled (reading_of self.old stage.old) FieldKind.Application)) }
+        ensures { Goes result field.now.at self.new stage.new (read_settled (K.Kind.relations field.now.kind.now) field.now.input.now FieldKind.Application field.now.at (settled (reading_of self.old stage.old) FieldKind.Application)) }
     {
-        if !self.settle_application(*stage) {
-            return Err(Refusal::WrongCount(at as u64));
-        }
-        let field = fetch::<ApplicationField>(input, at)?;
-        let Some(draft) = Draft::new(field.period, field.bound) else {
-            return Err(Refusal::OutOfLimits(at as u64));
-        };
+        self.complete(*stage, field.place())?;
+        field.allow_one_more(self.applications.len(), 64)?;
+        let ApplicationField { period, bound } = field.fetch()?;
+        let draft = Draft::new(period, bound).ok_or(Refusal::OutOfLimits(field.place()))?;
         *stage = Stage::Application(draft);
-        Ok(at + 11)
+        Ok(field.at + 11)
     }
 
     pub(crate) fn take_point<K: Kind>(
         &self,
         stage: &mut Stage,
-        kind: &K,
-        input: &[u8],
-        at: usize,
+        field: &Field<'_, K>,
     ) -> Result<usize, Refusal>
         requires room { Roomy self.now stage.old }
         requires drafting { is_some (current_of stage.old) ≡ true }
-        ensures { Goes result at self.now stage.new (read_settled (K.Kind.relations kind.now) input.now FieldKind.Point at (settled (reading_of self.now stage.old) FieldKind.Point)) }
+        ensures { Goes result field.now.at self.now stage.new (read_settled (K.Kind.relations field.now.kind.now) field.now.input.now FieldKind.Point field.now.at (settled (reading_of self.now stage.old) FieldKind.Point)) }
     {
         let Stage::Application(mut draft) = *stage else {
-            return Err(Refusal::WrongTag(at as u64));
+            return Err(Refusal::WrongTag(field.place()));
         };
-        if draft.points.len() >= 20 {
-            return Err(Refusal::WrongCount(at as u64));
-        }
-        let field = fetch::<PointField>(input, at)?;
-        if !draft.add(Point {
-            latency: field.latency,
-            cost: field.cost,
-        }) {
-            return Err(Refusal::OutOfLimits(at as u64));
+        field.allow_one_more(draft.points.len(), 20)?;
+        let said = field.fetch::<PointField>()?;
+        let point = Point {
+            latency: said.latency,
+            cost: said.cost,
+        };
+        if draft.add(point).is_err() {
+            return Err(Refusal::OutOfLimits(field.place()));
         }
         *stage = Stage::Application(draft);
-        Ok(at + 11)
+        Ok(field.at + 11)
     }
 
     pub(crate) fn take_activity<K: Kind>(
         &mut self,
         stage: &mut Stage,
-        kind: &K,
-        input: &[u8],
-        at: usize,
+        field: &Field<'_, K>,
     ) -> Result<usize, Refusal>
         requires { Roomy self.old stage.old }
-        ensures { Goes result at self.new stage.new (read_settled (K.Kind.relations kind.now) input.now FieldKind.Activity at (settled (reading_of self.old stage.old) FieldKind.Activity)) }
+        ensures { Goes result field.now.at self.new stage.new (read_settled (K.Kind.relations field.now.kind.now) field.now.input.now FieldKind.Activity field.now.at (settled (reading_of self.old stage.old) FieldKind.Activity)) }
     {
-        if !self.settle_activity(*stage) {
-            return Err(Refusal::WrongCount(at as u64));
-        }
-        let field = fetch::<ActivityField>(input, at)?;
+        self.complete(*stage, field.place())?;
+        field.allow_one_more(self.activities.len(), 512)?;
+        let said = field.fetch::<ActivityField>()?;
         let activity = Activity {
-            application: field.application,
-            resource: field.resource,
-            sender: field.sender,
-            turns: field.turns,
-            demand: field.demand,
-            jitter: field.jitter,
+            application: said.application,
+            resource: said.resource,
+            sender: said.sender,
+            turns: said.turns,
+            demand: said.demand,
+            jitter: said.jitter,
         };
-        self.judge_activity(kind, activity, at)?;
+        self.judge_activity(activity, field)?;
         self.add_activity(activity);
         *stage = Stage::Activity;
-        Ok(at + 15)
+        Ok(field.at + 15)
     }
 
     pub(crate) fn take_edge<K: Kind>(
         &mut self,
         stage: &mut Stage,
-        kind: &K,
-        input: &[u8],
-        at: usize,
+        field: &Field<'_, K>,
     ) -> Result<usize, Refusal>
         requires { current_of stage.old ≡ None }
-        ensures { Goes result at self.new stage.new (read_settled (K.Kind.relations kind.now) input.now FieldKind.Edge at (settled (reading_of self.old stage.old) FieldKind.Edge)) }
+        ensures { Goes result field.now.at self.new stage.new (read_settled (K.Kind.relations field.now.kind.now) field.now.input.now FieldKind.Edge field.now.at (settled (reading_of self.old stage.old) FieldKind.Edge)) }
     {
-        if self.edges.len() >= 1024 || !(stage.is_edge() || self.is_active()) {
-            return Err(Refusal::WrongCount(at as u64));
+        field.allow_one_more(self.edges.len(), 1024)?;
+        if !(stage.is_edge() || self.is_active()) {
+            return Err(Refusal::WrongCount(field.place()));
         }
-        let field = fetch::<EdgeField>(input, at)?;
+        let said = field.fetch::<EdgeField>()?;
         let edge = Edge {
-            from: field.from,
-            to: field.to,
+            from: said.from,
+            to: said.to,
         };
         if !self.edge_right(edge) {
-            return Err(Refusal::WrongEdge(at as u64));
+            return Err(Refusal::WrongEdge(field.place()));
         }
         self.add_edge(edge);
         *stage = Stage::Edge;
-        Ok(at + 7)
+        Ok(field.at + 7)
     }
 }

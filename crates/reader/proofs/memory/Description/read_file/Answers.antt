@@ -1,4 +1,5 @@
 use Rattle.std.proofs.Common.{suc, length, None, Err, sym, ap, ◌∙◌, subst}
+use Rattle.model.specs.declared.refusal.Refusal.TheVariants.{OutOfLimits}
 use Rattle.description.specs.Descriptions.{Description}
 use Rattle.description.specs.declared.field_kind.FieldKind.TheVariants.{Header}
 use Rattle.description.specs.Reader.{Reading, reads}
@@ -15,7 +16,7 @@ returns-in_err-header g c =
 
 pub returns-then-header-ne1 : goal.returns-then-header-ne1
 returns-then-header-ne1 g c =
-    other_version (g.K.Kind.relations c.args.kind.now) c.args.input.now c.in_ok-header.header c.in_ok-header.ensures.answer c.if-header-ne1.true
+    other_version (g.K.Kind.relations c.args.kind.now) c.args.input.now c.in_ok-header.header c.in_ok-header.ensures.answer c.if-header-ne1.true ∙ ap (λ n. Err (OutOfLimits n)) (sym c.place.ensures)
 
 pub returns : goal.returns
 returns g c =

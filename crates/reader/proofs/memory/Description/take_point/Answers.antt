@@ -1,4 +1,4 @@
-use Rattle.std.proofs.Common.{◌≡◌, ◌+◌, false, eqb, length, Some, None, Ok, sym, refl, ap, ◌∙◌, subst, arith}
+use Rattle.std.proofs.Common.{◌≡◌, ◌+◌, false, eqb, length, Some, None, Ok, sym, ap, ◌∙◌, subst, arith}
 use Rattle.std.proofs.lemmas.Bool.{cond-true, cond-false, lt-ltb}
 use Rattle.costs.specs.Tables.{points_of}
 use Rattle.model.specs.declared.refusal.Refusal.TheVariants.{OutOfLimits}
@@ -13,17 +13,17 @@ use Rattle.reader.proofs.memory.Description.take_point.Goals as goal
 pub returns : goal.returns
 returns g c =
     let d = c.args.self.now in
-    let input = c.args.input.now in
-    let at = c.args.at in
-    let r = g.K.Kind.relations c.args.kind.now in
+    let input = c.args.field.now.input.now in
+    let at = c.args.field.now.at in
+    let r = g.K.Kind.relations c.args.field.now.kind.now in
     let draft = c.in-Application.draft in
     let t = reading_of d (Drafting draft) in
-    let x = point_said c.in_ok-field.field in
-    let more = c.if-not-add.ensures.after refl in
+    let x = point_said c.in_ok-said.said in
+    let more = c.add.ensures.after c.if-is_err.ensures.negation in
     let some : eqb (length (points_of c.add.new.self.points)) 0 ≡ false = pushed_some (points_of draft.points) _ _ (ap current_points more) in
     let e : settled t Point ≡ Some t = cond-true _ _ _ (lt-ltb (length (points_of draft.points)) 20 (omega arith)) in
-    let f : field_at Point input at ≡ Ok x = ap (said point_said) c.in_ok-field.ensures.answer in
-    let j : judged r t x at ≡ None = ap (λ b. unless b (OutOfLimits at)) (sym c.if-not-add.ensures.answer) in (
+    let f : field_at Point input at ≡ Ok x = ap (said point_said) c.in_ok-said.ensures.answer in
+    let j : judged r t x at ≡ None = ap (λ b. unless b (OutOfLimits at)) (sym c.add.ensures.answer ∙ c.if-is_err.ensures.negation) in (
       ap (λ s. read_settled r input Point at (settled (reading_of d s) Point)) c.in-Application.is
           ∙ taken r input Point at (settled t Point) t x e f j
           ∙ (λ i. Ok (record { reading_is = record { last = sym (cond-false _ Application Point some) i; so_far = described d; current = sym more i }; place = at + 11 })),

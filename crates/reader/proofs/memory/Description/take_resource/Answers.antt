@@ -11,13 +11,13 @@ use Rattle.reader.proofs.memory.Description.take_resource.Goals as goal
 pub returns : goal.returns
 returns g c =
     let d = c.args.self.now in
-    let input = c.args.input.now in
-    let at = c.args.at in
-    let r = g.K.Kind.relations c.args.kind.now in
+    let input = c.args.field.now.input.now in
+    let at = c.args.field.now.at in
+    let r = g.K.Kind.relations c.args.field.now.kind.now in
     let t = reading_of d c.args.stage.now in
-    let x = resource_said c.in_ok-field.field in
+    let x = resource_said c.in_ok-said.said in
     let e : settled t Resource ≡ Some t = cond-true _ _ _ (lt-ltb (length (vec_items d.resources)) 32 (omega (arith, d.resources.ok.0))) in
-    let f : field_at Resource input at ≡ Ok x = ap (said resource_said) c.in_ok-field.ensures.answer in
+    let f : field_at Resource input at ≡ Ok x = ap (said resource_said) c.in_ok-said.ensures.answer in
     let j : judged r t x at ≡ None = ap (λ b. unless b (UnsoundResource at)) (sym c.if-not-sound.ensures) in (
       taken r input Resource at (settled t Resource) t x e f j
           ∙ (λ i. Ok (record { reading_is = record { last = Resource; so_far = sym c.add_resource.ensures i; current = c.requires i }; place = at + 21 })),
