@@ -2,26 +2,18 @@
 ghost use Rattle.std.specs.Prelude.{◌≡◌, length, ◌==◌};
 ghost use Rattle.plan.specs.Plans.{cells_of, plan_of};
 
-use crate::inner::{Inner, Plan};
+use crate::inner::Plan;
 use model::Cell;
 use reader::Description;
 
 // How many parts of each.
-#[derive(Clone, Copy, PartialEq)]
+#[derive(Clone, Copy, PartialEq, Eq, Debug)]
 pub struct Counts {
     pub resources: usize,
     pub applications: usize,
     pub activities: usize,
     pub cells: usize,
     pub edges: usize,
-}
-
-impl Inner {
-    fn application_count(&self) -> usize
-        ensures { result ≡ length (plan_of self.now).applications }
-    {
-        self.description.applications.len()
-    }
 }
 
 impl<K> Plan<K> {
@@ -41,7 +33,7 @@ impl<K> Plan<K> {
     {
         Counts {
             resources: self.inner.description.resources.len(),
-            applications: self.inner.application_count(),
+            applications: self.inner.description.application_count(),
             activities: self.inner.description.activities.len(),
             cells: self.inner.cells.len(),
             edges: self.inner.description.edges.len(),

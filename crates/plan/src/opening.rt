@@ -39,10 +39,8 @@ impl<K: Kind + Drop> Plan<K> {
     pub fn new(heap: Global, kind: K) -> Result<Plan<K>, AllocError>
         ensures { IfOk result (λ p. (p.kind ≡ kind) × (plan_of p.inner ≡ nothing) × (cells_of p.inner ≡ [])) }
     {
-        match Inner::new(heap) {
-            Ok(inner) => Ok(Plan { kind, inner }),
-            Err(e) => Err(e),
-        }
+        let inner = Inner::new(heap)?;
+        Ok(Plan { kind, inner })
     }
 }
 
