@@ -5,6 +5,7 @@ ghost use Rattle.openings.specs.Hex.{digit_of, Spells};
 use std::alloc::{AllocError, Global};
 
 // What a character is worth as a digit.
+// Kept: `char::to_digit` is no plainer here; it wants a `char` and answers a `u32` that would have to be narrowed again.
 fn digit(c: u8) -> Option<u8>
     ensures value { result ≡ digit_of c }
     ensures bound { IfSome result (λ d. d < 16) }

@@ -10,14 +10,9 @@ use std::io::{BufRead, BufReader};
 
 fn main(rt: HostRuntime) -> anyhow::Result<()> {
     let mut plan = Plan::new(rt.alloc(), standard_kinds())?;
-    let mut input = BufReader::new(rt.alloc(), rt.stdin())?;
-    let mut line = Vec::new(rt.alloc());
-    for number in 1..u64::MAX {
-        line.clear();
-        if input.read_until(b'\n', &mut line)? == 0 {
-            break;
-        }
-        open_line(&rt, &mut plan, number, line.as_slice())?;
+    let input = BufReader::new(rt.alloc(), rt.stdin())?;
+    for (number, line) in (1..u64::MAX).zip(input.split(rt.alloc(), b'\n')) {
+        open_line(&rt, &mut plan, number, line?.as_slice())?;
     }
     Ok(())
 }

@@ -1,20 +1,21 @@
 // What is said of a pair of entries.
-ghost use Rattle.std.specs.Prelude.{◌≡◌, IfOk, string_bytes};
+ghost use Rattle.std.specs.Prelude.{◌≡◌, Some};
 ghost use Rattle.arithmetic.specs.Entries.{endless};
 ghost use Rattle.arithmetic.specs.Occurrences.{begin};
 ghost use Rattle.overlap.specs.Answers.{sentence, Tells};
 
 use arithmetic::{Entry, overlap};
-use std::alloc::{AllocError, Global};
+use std::fmt;
 
 // An occurrence: its number, counted from 0, and when it begins.
-#[derive(Clone, Copy)]
+#[derive(Clone, Copy, PartialEq, Eq, Debug)]
 pub struct Occurrence {
     pub number: u64,
     pub begin: u128,
 }
 
-#[derive(Clone, Copy)]
+// Kept: an `Option` of two occurrences would say the same, but it could not print itself.
+#[derive(Clone, Copy, PartialEq, Eq, Debug)]
 pub enum Answer {
     Never,
     Overlap(Occurrence, Occurrence),
@@ -47,21 +48,22 @@ impl Occurrence {
 }
 
 // The line that is printed, without its line feed.
-pub fn line(heap: Global, answer: Answer) -> Result<String, AllocError>
-    ensures { IfOk result (λ t. string_bytes t ≡ sentence answer) }
-{
-    match answer {
-        Answer::Never => String::from_str(heap, "never"),
-        Answer::Overlap(a, b) => overlap_line(heap, a, b),
-    }
-}
+impl fmt::Display for Answer {
+    ghost output = { λ x. Some (sentence x) };
 
-fn overlap_line(heap: Global, a: Occurrence, b: Occurrence) -> Result<String, AllocError>
-    ensures { IfOk result (λ t. string_bytes t ≡ sentence (Answer.Overlap a b)) }
-{
-    let i = a.number;
-    let s = a.begin;
-    let j = b.number;
-    let t = b.begin;
-    format!(in heap; "occurrence {i} begins at {s}, occurrence {j} at {t}")
+    fn fmt<W: fmt::Write>(&self, f: &mut fmt::Formatter<W>) -> fmt::Result {
+        match *self {
+            Answer::Never => f.write_str("never"),
+            Answer::Overlap(
+                Occurrence {
+                    number: i,
+                    begin: s,
+                },
+                Occurrence {
+                    number: j,
+                    begin: t,
+                },
+            ) => write!(f, "occurrence {i} begins at {s}, occurrence {j} at {t}"),
+        }
+    }
 }

@@ -1,28 +1,38 @@
 // What is wrong with a text that should hold a pair of entries.
+ghost use Rattle.std.specs.Prelude.{◌≡◌};
+
 use arithmetic::{OutOfLimits, REPEAT_MAX, SPAN_MAX, START_MAX};
 use std::fmt;
 
 // Of the two entries of a pair.
-#[derive(Clone, Copy)]
+#[derive(Clone, Copy, PartialEq, Eq, Debug)]
 pub enum Which {
     First,
     Second,
 }
 
 // A figure of this entry is outside its limits.
-#[derive(Clone, Copy)]
+#[derive(Clone, Copy, PartialEq, Eq, Debug)]
 pub struct Limits {
     pub which: Which,
     pub figure: OutOfLimits,
 }
 
-#[derive(Clone, Copy)]
+#[derive(Clone, Copy, PartialEq, Eq, Debug)]
 pub enum Fault<'a> {
     // so many words, where six are wanted
     Count(usize),
     // the word at this place, counted from 1, is no number
     Word(usize, &'a str),
     Limits(Limits),
+}
+
+impl From<Limits> for Fault<'_> {
+    ghost from_gives = { λ limits fault. fault ≡ Fault.Limits limits };
+
+    fn from(limits: Limits) -> Self {
+        Self::Limits(limits)
+    }
 }
 
 impl fmt::Display for Which {

@@ -6,7 +6,6 @@ mod fault;
 mod pair;
 mod reply;
 
-use answer::line;
 use anyhow::anyhow;
 use reply::reply;
 use std::env;
@@ -47,7 +46,7 @@ fn main(rt: HostRuntime) -> anyhow::Result<()> {
 // The pair that the arguments give; what is wrong with them goes to standard error, with the usage.
 fn answer_arguments(rt: &HostRuntime, text: &str) -> anyhow::Result<()> {
     match reply(text) {
-        Ok(answer) => rt.println(line(rt.alloc(), answer)?)?,
+        Ok(answer) => rt.println(answer)?,
         Err(fault) => {
             eprint!(rt; "overlap: {fault}\n\n{USAGE}")?;
             return Err(anyhow!("the arguments are no pair of entries"));
@@ -58,14 +57,9 @@ fn answer_arguments(rt: &HostRuntime, text: &str) -> anyhow::Result<()> {
 
 // A pair from each line of standard input.
 fn answer_lines(rt: &HostRuntime) -> anyhow::Result<()> {
-    let mut input = BufReader::new(rt.alloc(), rt.stdin())?;
-    let mut bytes = Vec::new(rt.alloc());
-    for number in 1..u64::MAX {
-        bytes.clear();
-        if input.read_until(b'\n', &mut bytes)? == 0 {
-            break;
-        }
-        answer_line(rt, number, bytes.as_slice())?;
+    let input = BufReader::new(rt.alloc(), rt.stdin())?;
+    for (number, line) in (1..u64::MAX).zip(input.split(rt.alloc(), b'\n')) {
+        answer_line(rt, number, line?.as_slice())?;
     }
     Ok(())
 }
@@ -79,7 +73,7 @@ fn answer_line(rt: &HostRuntime, number: u64, bytes: &[u8]) -> anyhow::Result<()
         return Ok(());
     }
     match reply(text) {
-        Ok(answer) => rt.println(line(rt.alloc(), answer)?)?,
+        Ok(answer) => rt.println(answer)?,
         Err(fault) => println!(rt; "line {number}: {fault}")?,
     }
     Ok(())

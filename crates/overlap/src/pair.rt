@@ -17,19 +17,14 @@ impl Pair {
         ensures { MatchResult result (Paired figures) (Refused figures) }
     {
         let [start, repeat, span, other_start, other_repeat, other_span] = figures;
-        let first = match Entry::new(start, repeat, span) {
-            Ok(entry) => entry,
-            Err(figure) => return Err(Limits {
-                which: Which::First,
-                figure,
-            }),
-        };
-        match Entry::new(other_start, other_repeat, other_span) {
-            Ok(second) => Ok(Pair { first, second }),
-            Err(figure) => Err(Limits {
-                which: Which::Second,
-                figure,
-            }),
-        }
+        let first = Entry::new(start, repeat, span).map_err(|figure| Limits {
+            which: Which::First,
+            figure,
+        })?;
+        let second = Entry::new(other_start, other_repeat, other_span).map_err(|figure| Limits {
+            which: Which::Second,
+            figure,
+        })?;
+        Ok(Pair { first, second })
     }
 }
