@@ -28,7 +28,9 @@ pub enum Fault<'a> {
 }
 
 impl From<Limits> for Fault<'_> {
-    ghost from_gives = { λ limits fault. fault ≡ Fault.Limits limits };
+    ghost use Rattle.overlap.specs.declared.fault.Fault.TheVariants.{Limits as said};
+
+    ghost from_gives = { λ limits fault. fault ≡ said limits };
 
     fn from(limits: Limits) -> Self {
         Self::Limits(limits)
