@@ -1,5 +1,4 @@
 pub mod Drains
-pub mod KeyRuns
 pub mod Lexical
 pub mod Orders
 pub mod Overwriting

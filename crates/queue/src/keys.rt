@@ -6,19 +6,5 @@ ghost use Rattle.queue.specs.Keys.{less};
 pub fn keys_before(a: &[u64], b: &[u64]) -> bool
     ensures { result ≡ less a.now b.now }
 {
-    compare(a, b)
-}
-
-fn compare(a: &[u64], b: &[u64]) -> bool
-    ensures { result ≡ less a.now b.now }
-{
-    for (i, x) in a.iter().enumerate() {
-        if i >= b.len() {
-            return false;
-        }
-        if *x != b[i] {
-            return *x < b[i];
-        }
-    }
-    a.len() < b.len()
+    a < b
 }
