@@ -9,7 +9,7 @@ mod places;
 mod ranking;
 mod sifting;
 
-pub use draining::drain;
+pub use draining::{NotDrained, drain};
 pub use keys::keys_before;
 pub use laws::order_is_determined;
 pub use places::{NoPlace, clear, pop, push};

@@ -55,14 +55,9 @@ pub(crate) fn take_first<T: Ranked>(queue: &mut [T], count: usize) -> T
 pub fn clear<T: Ranked>(queue: &mut [T], count: usize, item: T)
     ensures { queue.new ≡ replicate (min count (length queue.old)) item ++ drop (min count (length queue.old)) queue.old }
 {
-    overwrite(queue, count.min(queue.len()), item);
-}
-
-fn overwrite<T: Ranked>(queue: &mut [T], end: usize, item: T)
-    requires { end ≤ length queue.old }
-    ensures { queue.new ≡ replicate end item ++ drop end queue.old }
-{
-    for place in 0..end {
-        queue[place] = item;
+    let end = count.min(queue.len());
+    let part = &mut queue[..end];
+    for place in part.iter_mut() {
+        *place = item;
     }
 }

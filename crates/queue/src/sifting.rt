@@ -34,13 +34,12 @@ fn first_child<T: Ranked>(queue: &[T], place: usize) -> usize
     ensures best { IsGreaterChild (order T.Ranked.before) queue.now place result (length queue.now) }
 {
     let left = place * 2 + 1;
-    if queue.len() <= left + 1 {
-        return left;
+    let right = left + 1;
+    if right < queue.len() && !is_before(queue, left, right) {
+        right
+    } else {
+        left
     }
-    if is_before(queue, left, left + 1) {
-        return left;
-    }
-    left + 1
 }
 
 // Lets the first record sink until none below it ranks before it.

@@ -41,7 +41,7 @@ fn events_by_rank(rt: HostRuntime) {
     let mut queue = [sorted[0]; 6];
     let mut out = queue;
     push_all(&rt, &mut queue, &mixed);
-    assert!(rt; drain(&mut queue, 6, &mut out));
+    assert!(rt; drain(&mut queue, 6, &mut out).is_ok());
     same(&rt, &out, &sorted);
 }
 

@@ -1,6 +1,6 @@
 // A full slice, an empty queue, and a count beyond the slice are answered, and change nothing.
 use crate::records::Ready;
-use queue::{clear, drain, pop, push};
+use queue::{NotDrained, clear, drain, pop, push};
 
 fn ready(slack: u64) -> Ready {
     Ready {
@@ -41,10 +41,10 @@ fn places_beyond_stay(rt: HostRuntime) {
 fn too_short_to_drain(rt: HostRuntime) {
     let mut queue = [ready(5), ready(6)];
     let mut out = [ready(0)];
-    assert!(rt; !drain(&mut queue, 2, &mut out));
-    assert!(rt; !drain(&mut queue, 3, &mut out));
+    assert!(rt; drain(&mut queue, 2, &mut out) == Err(NotDrained::OutTooShort));
+    assert!(rt; drain(&mut queue, 3, &mut out) == Err(NotDrained::CountTooHigh));
     assert!(rt; queue[0] == ready(5) && queue[1] == ready(6) && out[0] == ready(0));
-    assert!(rt; drain(&mut queue, 1, &mut out));
+    assert!(rt; drain(&mut queue, 1, &mut out).is_ok());
     assert!(rt; out[0] == ready(5));
 }
 

@@ -78,6 +78,6 @@ fn drained_is_sorted(rt: HostRuntime) {
     let mut queue = [NONE; 64];
     let mut out = [NONE; 64];
     push_some(&rt, &mut queue, 7, 64);
-    assert!(rt; drain(&mut queue, 64, &mut out));
+    assert!(rt; drain(&mut queue, 64, &mut out).is_ok());
     in_order(&rt, &out);
 }

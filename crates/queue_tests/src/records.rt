@@ -6,22 +6,14 @@ ghost use Rattle.queue.proofs.Lexical.{ranking_by};
 ghost use Rattle.queue_tests.specs.ReadyRankedLemmas.{apart};
 ghost use Rattle.queue_tests.specs.EventRankedLemmas;
 
-use queue::{Ranked, keys_before};
+use queue::Ranked;
 
 // The least slack first, then the lowest activity, then the lowest turn.
-#[derive(Clone, Copy, PartialEq, Eq, Debug)]
+#[derive(Clone, Copy, PartialEq, Eq, PartialOrd, Ord, Debug)]
 pub struct Ready {
     pub slack: u64,
     pub activity: u16,
     pub turn: u8,
-}
-
-impl Ready {
-    fn keys(&self) -> [u64; 3]
-        ensures { result ≡ ready_keys self.now }
-    {
-        [self.slack, self.activity as u64, self.turn as u64]
-    }
 }
 
 impl Ranked for Ready {
@@ -30,26 +22,17 @@ impl Ranked for Ready {
     ghost ranking = { ranking_by ready_keys apart };
 
     fn ranks_before(&self, other: &Ready) -> bool {
-        keys_before(&self.keys(), &other.keys())
+        self < other
     }
 }
 
 // By time; at one time an end before a start, then the lowest activity, then the lowest turn.
-#[derive(Clone, Copy, PartialEq, Eq, Debug)]
+#[derive(Clone, Copy, PartialEq, Eq, PartialOrd, Ord, Debug)]
 pub struct Event {
     pub time: u64,
     pub starts: bool,
     pub activity: u16,
     pub turn: u8,
-}
-
-impl Event {
-    fn keys(&self) -> [u64; 4]
-        ensures { result ≡ event_keys self.now }
-    {
-        let starts = if self.starts { 1 } else { 0 };
-        [self.time, starts, self.activity as u64, self.turn as u64]
-    }
 }
 
 impl Ranked for Event {
@@ -58,6 +41,6 @@ impl Ranked for Event {
     ghost ranking = { ranking_by event_keys EventRankedLemmas.apart };
 
     fn ranks_before(&self, other: &Event) -> bool {
-        keys_before(&self.keys(), &other.keys())
+        self < other
     }
 }
