@@ -1,5 +1,5 @@
 -- One record after the other leaves a queue.
-use Rattle.std.proofs.Common.{◌≡◌, ℕ, suc, ◌+◌, ◌-◌, ◌<◌, ◌≤◌, Bool, List, [], ◌∷◌, ◌++◌, reverse, length, take, drop, set, sym, refl, ap, ◌∙◌, subst, append_assoc, append-nil, arith, take_all, drop-cons}
+use Rattle.std.proofs.Common.{◌≡◌, ℕ, suc, ◌+◌, ◌-◌, ◌<◌, ◌≤◌, Bool, List, [], ◌∷◌, ◌++◌, reverse, length, take, drop, set, sym, ap, ◌∙◌, subst, append_assoc, append-nil, arith, take_all, drop-cons}
 use Rattle.std.proofs.lemmas.List.{take_at, drop_at, length-reverse, reverse-append}
 use Rattle.queue.specs.Drained.{Drained}
 use Rattle.queue.specs.Heaps.{Heaped, Popped, contents}
@@ -25,7 +25,7 @@ module _ {X : Type 0} (before : X → X → Bool) where
   steps q q' taken r n c x lt room long was pop =
       let less : n - c - 1 ≡ n - (c + 1) = omega arith in
       let back : suc (n - c - 1) ≡ n - c = omega arith in
-      let front : take (c + 1) (set taken c x) ≡ take c taken ++ x ∷ [] = one_more taken c (c + 1) x (omega arith) refl in
+      let front : take (c + 1) (set taken c x) ≡ take c taken ++ x ∷ [] = one_more taken c x (omega arith) in
       record {
         heap = λ h. subst (Heaped before r) less (pop.heap (was.heap h));
         split = λ h.

@@ -1,59 +1,33 @@
--- A ranking by keys keeps the laws.
-use Rattle.std.proofs.Common.{◌≡◌, ℕ, ◌<◌, Bool, true, false, cond, ltb, List, [], ◌∷◌, sym, refl, ◌∙◌, ⊎_elim, arith}
-use Rattle.std.proofs.lemmas.Bool.{lt-ltb, le-ltb, cond-true, cond-false, cases_order, both_ways}
+-- A ranking by keys keeps the laws, since it is the library's order of lists.
+use Rattle.std.proofs.Common.{◌≡◌, ℕ, Bool, true, false, List, Ordering, Some, Less, Equal, Greater, sym, refl, ap, ◌∙◌, arith}
+use Rattle.std.proofs.lemmas.Bool.Decides.{nat_tests}
+use Rattle.std.proofs.lemmas.Cmp.{nat_list_cmp_total, same_from_slice_cmp, same_from_slice_cmp_tested}
+use Rattle.std.proofs.lemmas.Map.Lookups.{exact_bytes}
+use Rattle.std.specs.Cmp.Lexicographic.{slice_cmp, slice_partial_cmp}
+use Rattle.std.specs.Ordering.{nat_cmp, is_lt, is_some_and, ordering_reverse}
 use Rattle.queue.specs.Keys.{less}
 use Rattle.queue.specs.Ranking.{Ranking}
 
-pub at_lower : (x y : ℕ) (b : Bool) → x < y → cond (ltb x y) true (cond (ltb y x) false b) ≡ true
-at_lower x y b h = cond-true _ _ _ (lt-ltb x y h)
+pub less_told : (xs ys : List ℕ) (r : Bool) → r ≡ is_some_and is_lt (slice_partial_cmp (λ x y. Some (nat_cmp x y)) xs ys) → r ≡ less xs ys
+less_told = same_from_slice_cmp_tested nat_cmp is_lt less refl (λ _ _. refl) (λ _ _. refl) (λ x y xs ys o h. grind (arith, nat_tests))
 
-pub at_higher : (x y : ℕ) (b : Bool) → y < x → cond (ltb x y) true (cond (ltb y x) false b) ≡ false
-at_higher x y b h = cond-false _ _ _ (le-ltb x y (omega arith)) ∙ cond-true _ _ _ (lt-ltb y x h)
+less_is : (xs ys : List ℕ) → is_lt (slice_cmp nat_cmp xs ys) ≡ less xs ys
+less_is xs ys = same_from_slice_cmp nat_cmp is_lt less refl (λ _ _. refl) (λ _ _. refl) (λ x y xs ys o h. grind (arith, nat_tests)) xs ys _ refl
 
-pub at_same : (x y : ℕ) (b : Bool) → x ≡ y → cond (ltb x y) true (cond (ltb y x) false b) ≡ b
-at_same x y b h = cond-false _ _ _ (le-ltb x y (omega arith)) ∙ cond-false _ _ _ (le-ltb y x (omega arith))
+is_less : (r : Ordering) → is_lt r ≡ true → r ≡ Less
+is_less Less h = refl
+is_less Equal h = cc
+is_less Greater h = cc
 
-one_way : (xs ys : List ℕ) → less xs ys ≡ true → less ys xs ≡ false
-one_way [] [] h = refl
-one_way [] (y ∷ ys) h = refl
-one_way (x ∷ xs) [] h = sym h
-one_way (x ∷ xs) (y ∷ ys) h = ⊎_elim
-    (λ e. at_same y x (less ys xs) (sym e) ∙ one_way xs ys (sym (at_same x y (less xs ys) e) ∙ h))
-    (⊎_elim (λ l. at_higher y x (less ys xs) l) (λ l. absurd (both_ways _ (at_higher x y (less xs ys) l) h)))
-    (cases_order x y)
-
-no_tie : (xs ys : List ℕ) → less xs ys ≡ false → less ys xs ≡ false → xs ≡ ys
-no_tie [] [] h k = refl
-no_tie [] (y ∷ ys) h k = cc
-no_tie (x ∷ xs) [] h k = cc
-no_tie (x ∷ xs) (y ∷ ys) h k = ⊎_elim
-    (λ e. let t = no_tie xs ys (sym (at_same x y (less xs ys) e) ∙ h) (sym (at_same y x (less ys xs) (sym e)) ∙ k) in cc)
-    (⊎_elim (λ l. absurd (both_ways _ h (at_lower x y (less xs ys) l))) (λ l. absurd (both_ways _ k (at_lower y x (less ys xs) l))))
-    (cases_order x y)
-
-chain : (xs ys zs : List ℕ) → less xs ys ≡ true → less ys zs ≡ true → less xs zs ≡ true
-chain [] [] zs h k = k
-chain [] (y ∷ ys) [] h k = k
-chain [] (y ∷ ys) (z ∷ zs) h k = refl
-chain (x ∷ xs) [] [] h k = h
-chain (x ∷ xs) [] (z ∷ zs) h k = absurd (both_ways _ refl h)
-chain (x ∷ xs) (y ∷ ys) [] h k = k
-chain (x ∷ xs) (y ∷ ys) (z ∷ zs) h k = ⊎_elim
-    (λ e. ⊎_elim
-    (λ f. at_same x z (less xs zs) (e ∙ f) ∙ chain xs ys zs (sym (at_same x y (less xs ys) e) ∙ h) (sym (at_same y z (less ys zs) f) ∙ k))
-    (⊎_elim (λ l. at_lower x z (less xs zs) (omega arith)) (λ l. absurd (both_ways _ (at_higher y z (less ys zs) l) k)))
-    (cases_order y z))
-    (⊎_elim
-    (λ l. ⊎_elim
-    (λ f. at_lower x z (less xs zs) (omega arith))
-    (⊎_elim (λ m. at_lower x z (less xs zs) (omega arith)) (λ m. absurd (both_ways _ (at_higher y z (less ys zs) m) k)))
-    (cases_order y z))
-    (λ l. absurd (both_ways _ (at_higher x y (less xs ys) l) h)))
-    (cases_order x y)
+neither : (r : Ordering) → is_lt r ≡ false → is_lt (ordering_reverse r) ≡ false → r ≡ Equal
+neither Less h k = cc
+neither Equal h k = refl
+neither Greater h k = cc
 
 pub ranking_by : {X : Type 0} (keys : X → List ℕ) → ((x y : X) → keys x ≡ keys y → x ≡ y) → Ranking (λ (x y : X). less (keys x) (keys y))
-ranking_by keys apart = record {
-  one_way = λ x y. one_way (keys x) (keys y);
-  chain = λ x y z. chain (keys x) (keys y) (keys z);
-  no_tie = λ x y h k. apart x y (no_tie (keys x) (keys y) h k);
-}
+ranking_by keys apart =
+    let o = nat_list_cmp_total in record {
+      one_way = λ x y h. sym (less_is (keys y) (keys x)) ∙ ap is_lt (o.antisymm (keys y) (keys x) ∙ ap ordering_reverse (is_less _ (less_is (keys x) (keys y) ∙ h)));
+      chain = λ x y z h k. sym (less_is (keys x) (keys z)) ∙ ap is_lt (o.trans (keys x) (keys y) (keys z) (is_less _ (less_is (keys x) (keys y) ∙ h)) (is_less _ (less_is (keys y) (keys z) ∙ k)));
+      no_tie = λ x y h k. apart x y (exact_bytes (keys x) (keys y) (neither _ (less_is (keys x) (keys y) ∙ h) (sym (ap is_lt (o.antisymm (keys y) (keys x))) ∙ less_is (keys y) (keys x) ∙ k)));
+    }

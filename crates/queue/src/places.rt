@@ -1,4 +1,5 @@
 // Putting records into a queue, and taking the first one out. `count` is how many records the queue holds.
+// Kept: slice and count are two parameters, since the caller owns both; it is a rule of this project.
 ghost use Rattle.std.specs.Prelude.{◌≡◌, ◌+◌, ◌<◌, ◌≤◌, min, ◌++◌, length, drop, replicate, MatchOption, MatchResult};
 ghost use Rattle.queue.specs.Heaps.{Popped, Pushed};
 
@@ -25,7 +26,7 @@ fn insert<T: Ranked>(queue: &mut [T], count: usize, item: T)
     ensures { Pushed T.Ranked.before queue.old count item queue.new }
 {
     queue[count] = item;
-    sift_up(&mut queue[0..count + 1], count);
+    sift_up(&mut queue[..=count], count);
 }
 
 // Takes out the record that ranks before all others. The count is then one less. None where the queue is empty, or the count is
@@ -44,10 +45,9 @@ pub(crate) fn take_first<T: Ranked>(queue: &mut [T], count: usize) -> T
     requires within { count ≤ length queue.old }
     ensures { Popped T.Ranked.before queue.old count result queue.new }
 {
-    let part = &mut queue[0..count];
-    let first = part[0];
-    part.swap(0, count - 1);
-    sift_down(&mut part[0..count - 1]);
+    let first = queue[0];
+    queue.swap(0, count - 1);
+    sift_down(&mut queue[..count - 1]);
     first
 }
 
@@ -55,6 +55,7 @@ pub(crate) fn take_first<T: Ranked>(queue: &mut [T], count: usize) -> T
 pub fn clear<T: Ranked>(queue: &mut [T], count: usize, item: T)
     ensures { queue.new ≡ replicate (min count (length queue.old)) item ++ drop (min count (length queue.old)) queue.old }
 {
+    // Kept: `fill` wants a clone that cannot fail, and `T: Copy` does not say so.
     let end = count.min(queue.len());
     let part = &mut queue[..end];
     for place in part.iter_mut() {

@@ -15,15 +15,20 @@ fn is_before<T: Ranked>(queue: &[T], i: usize, j: usize) -> bool
 }
 
 // Lets the record at `start` rise until none above it ranks after it.
+// Kept: the places of a path through the heap are halved or doubled, which no iterator over the slice gives.
 pub(crate) fn sift_up<T: Ranked>(queue: &mut [T], start: usize)
     requires { start < length queue.old }
     ensures shuffled { IsPermutation queue.old queue.new }
     ensures rises { SiftsUp (order T.Ranked.before) queue.old start queue.new }
 {
     let mut place = start;
-    while 0 < place && is_before(queue, place, (place - 1) / 2) {
-        queue.swap((place - 1) / 2, place);
-        place = (place - 1) / 2;
+    while 0 < place {
+        let parent = (place - 1) / 2;
+        if !is_before(queue, place, parent) {
+            return;
+        }
+        queue.swap(parent, place);
+        place = parent;
     }
 }
 

@@ -18,13 +18,6 @@ fn push_all(rt: &impl Abort, queue: &mut [Event], events: &[Event]) {
     }
 }
 
-fn same(rt: &impl Abort, a: &[Event], b: &[Event]) {
-    assert_eq!(rt; a.len(), b.len());
-    for (x, y) in a.iter().zip(b) {
-        assert!(rt; *x == *y);
-    }
-}
-
 #[test]
 fn events_by_rank(rt: HostRuntime) {
     let sorted = [
@@ -42,7 +35,7 @@ fn events_by_rank(rt: HostRuntime) {
     let mut out = queue;
     push_all(&rt, &mut queue, &mixed);
     assert!(rt; drain(&mut queue, 6, &mut out).is_ok());
-    same(&rt, &out, &sorted);
+    assert_eq!(rt; out, sorted);
 }
 
 #[test]

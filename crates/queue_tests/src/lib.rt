@@ -8,6 +8,8 @@ pub use records::{Event, Ready};
 #[cfg(test)]
 mod events;
 #[cfg(test)]
+mod keys;
+#[cfg(test)]
 mod limits;
 #[cfg(test)]
 mod orders;

@@ -36,14 +36,12 @@ fn push_some(rt: &impl Abort, queue: &mut [Ready], start: u64, size: usize) {
 
 fn pop_by_rank(rt: &impl Abort, queue: &mut [Ready], size: usize) -> Result<(), Fail> {
     let mut last = NONE;
-    for done in 0..size {
-        match pop(queue, size - done) {
-            None => return Err(Fail::new("nothing left")),
-            Some(first) => {
-                assert!(rt; !first.ranks_before(&last));
-                last = first;
-            }
-        }
+    for left in (1..=size).rev() {
+        let Some(first) = pop(queue, left) else {
+            return Err(Fail::new("nothing left"));
+        };
+        assert!(rt; !first.ranks_before(&last));
+        last = first;
     }
     assert!(rt; pop(queue, 0).is_none());
     Ok(())
@@ -65,19 +63,11 @@ fn any_order_is_popped_by_rank(rt: HostRuntime) -> Result<(), Fail> {
     pop_any_order(&rt, &mut queue)
 }
 
-fn in_order(rt: &impl Abort, records: &[Ready]) {
-    for pair in records.windows(2) {
-        if let [a, b] = pair {
-            assert!(rt; !b.ranks_before(a));
-        }
-    }
-}
-
 #[test]
 fn drained_is_sorted(rt: HostRuntime) {
     let mut queue = [NONE; 64];
     let mut out = [NONE; 64];
     push_some(&rt, &mut queue, 7, 64);
     assert!(rt; drain(&mut queue, 64, &mut out).is_ok());
-    in_order(&rt, &out);
+    assert!(rt; out.is_sorted_by(|a, b| !b.ranks_before(a)));
 }

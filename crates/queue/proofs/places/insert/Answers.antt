@@ -1,4 +1,4 @@
-use Rattle.std.proofs.Common.{◌≡◌, ◌+◌, ◌-◌, drop, set, ap, ◌∙◌, arith, drop-set-lt}
+use Rattle.std.proofs.Common.{◌+◌, drop, set, arith, drop-set-lt}
 use Rattle.queue.proofs.PushPop.{one_more, pushed}
 use Rattle.queue.proofs.places.insert.Goals as goal
 
@@ -7,7 +7,6 @@ returns g c =
     let q = c.args.queue.now in
     let n = c.args.count in
     let x = c.args.item in
-    let m = n + 1 - 0 in
-    let e : m ≡ n + 1 = omega arith in
     let told = c.sift_up.ensures in
-    pushed g.T.Ranked.before g.met.T.Ranked.ranking q _ c.sift_up.new.queue (drop m (set q n x)) n x c.requires (one_more q n m x c.requires e) (ap (λ k. drop k (set q n x)) e ∙ drop-set-lt (n + 1) q n x (omega arith)) told.shuffled told.rises
+    pushed g.T.Ranked.before g.met.T.Ranked.ranking q _ c.sift_up.new.queue (drop (n + 1) (set q n x)) n x
+    c.requires (one_more q n x c.requires) (drop-set-lt (n + 1) q n x (omega arith)) told.shuffled told.rises

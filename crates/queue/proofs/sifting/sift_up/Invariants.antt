@@ -6,7 +6,12 @@ use Rattle.queue.proofs.Orders.{total}
 use Rattle.queue.proofs.sifting.sift_up.Given as goal
 
 abbrev pub invariant-loop-place : goal.invariant-loop-place
-invariant-loop-place g l = (l.place < length l.queue) × (l.place ≤ l.start) × IsPermutation l.initial.queue l.queue × sifts.Rising (order g.T.Ranked.before) (total g.T.Ranked.before g.met.T.Ranked.ranking) l.initial.queue l.start l.queue l.place
+invariant-loop-place g l = record {
+  within : l.place < length l.queue;
+  above : l.place ≤ l.start;
+  shuffled : IsPermutation l.initial.queue l.queue;
+  rising : sifts.Rising (order g.T.Ranked.before) (total g.T.Ranked.before g.met.T.Ranked.ranking) l.initial.queue l.start l.queue l.place;
+}
 
 abbrev pub decreases-loop-place : goal.decreases-loop-place
 decreases-loop-place g l = l.place
