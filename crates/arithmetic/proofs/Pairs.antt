@@ -1,9 +1,13 @@
 -- From entries to endless intervals, and from meetings to overlaps.
-use Rattle.std.proofs.Common.{◌≡◌, ℕ, ◌+◌, ◌-◌, ◌*◌, ◌%◌, ◌<◌, ◌≤◌, Bool, true, false, ◌&&◌, ltb, leb, MatchBool, sym, refl, ap, ◌∙◌, subst, ⊎_elim, mul-le-mul_right, arith}
+use Rattle.std.proofs.Common.{◌≡◌, ℕ, ◌+◌, ◌-◌, ◌*◌, ◌<◌, ◌≤◌, Bool, true, false, ◌&&◌, ltb, leb, MatchBool, MatchOption, sym, refl, ap, ◌∙◌, subst, ⊎_elim, mul-le-mul_right, arith}
 use Rattle.std.proofs.lemmas.Bool.{le-leb, lt-leb, ltb-true, ltb-false, and_from, both_ways, cases_lt, cases_order}
 use Rattle.arithmetic.specs.declared.entry.Entry.{Entry}
 use Rattle.arithmetic.specs.declared.pair.OccurrencePair.{OccurrencePair}
-use Rattle.arithmetic.specs.Divisors.{gcd}
+use Rattle.arithmetic.specs.declared.progressions.Progression.{Progression}
+use native.Mathlib.Nat.{le_of_dvd}
+use Rattle.std.specs.Bool.{then_some}
+use Rattle.arithmetic.specs.Divisors.{Greatest, gcd}
+use Rattle.arithmetic.proofs.Factors.{divisor_is_determined}
 use Rattle.arithmetic.specs.Entries.{endless, Overlapping, OverlappingItself}
 use Rattle.arithmetic.specs.Laws.{Proper, gap, apart}
 use Rattle.arithmetic.specs.Meetings.{Agree, Meet}
@@ -41,51 +45,59 @@ not_apart a b g x eg ex no' le =
     absurd (both_ways (apart (endless a) (endless b)) no' (sym (test_is a b g x eg ex) ∙ and_from (leb a.span x) (leb b.span (g - x)) (le-leb a.span x le) (le-leb b.span (g - x) ge))))
     (cases_lt (g - x) b.span)
 
+-- the divisor of the repeats, as the code finds it
+pub shared : (a b : Entry) (p q g : ℕ) → p ≡ a.repeat → q ≡ b.repeat → Greatest p q g → (g ≡ gcd a.repeat b.repeat) × (g ≤ 64000000)
+shared a b p q g ep eq h =
+    ((divisor_is_determined p q).only g h ∙ (λ i. gcd (ep i) (eq i)), omega (arith, le_of_dvd {n = p} (omega (arith, a.repeats)) h.divides_first, a.often))
+
+-- when the occurrences begin, each so much later
+abbrev beginnings : Entry → ℕ → Progression
+beginnings e later = record { first = e.start + later; step = e.repeat }
+
+-- they differ by multiples of the divisor
+agree : (a b : Entry) (u v m n : ℕ) (p q : Progression) → p ≡ beginnings a u → q ≡ beginnings b v → u ≤ 64000000 → v ≤ 64000000
+    → let g = gcd a.repeat b.repeat in a.start + u + m * g ≡ b.start + v + n * g → Agree p.step p.first q.step q.first
+agree a b u v m n p q ep eq ul vl e =
+    subst (λ (p : Progression). Agree p.step p.first q.step q.first) (sym ep)
+    (subst (λ (q : Progression). Agree a.repeat (a.start + u) q.step q.first) (sym eq)
+    (record {
+      p_positive = a.repeats;
+      p_limit = a.often;
+      q_positive = b.repeats;
+      q_limit = b.often;
+      a_limit = omega (arith, a.early);
+      b_limit = omega (arith, b.early);
+      rests = multiples_rest (a.start + u) (b.start + v) (gcd a.repeat b.repeat) m n e;
+    }))
+
 -- b begins x after a, modulo g; and a begins g - x after b
-pub agree_first : (a b : Entry) (g x : ℕ) → g ≡ gcd a.repeat b.repeat → x ≡ gap g a.start b.start → g ≤ 64000000 → x < g
-    → Agree a.repeat (a.start + x) b.repeat b.start
-agree_first a b g x eg ex gl xg =
-    let is = gap_is g a.start b.start (omega arith) in record {
-      p_positive = a.repeats;
-      p_limit = a.often;
-      q_positive = b.repeats;
-      q_limit = b.often;
-      a_limit = omega (arith, a.early);
-      b_limit = omega (arith, b.early);
-      rests = subst (λ (g : ℕ). (a.start + x) % g ≡ b.start % g) eg
-          (multiples_rest (a.start + x) b.start g is.1.0 is.0 (omega (arith, is.1.1)));
+pub agree_first : (a b : Entry) (g x : ℕ) (p q : Progression) → p ≡ beginnings a x → q ≡ beginnings b 0
+    → g ≡ gcd a.repeat b.repeat → x ≡ gap g a.start b.start → g ≤ 64000000 → x < g → Agree p.step p.first q.step q.first
+agree_first a b g x p q ep eq eg ex gl xg =
+    let is = gap_is g a.start b.start (omega arith) in
+    agree a b x 0 is.1.0 is.0 p q ep eq (omega arith) (omega arith)
+    (subst (λ (g : ℕ). a.start + x + is.1.0 * g ≡ b.start + 0 + is.0 * g) eg (omega (arith, is.1.1)))
+
+pub agree_second : (a b : Entry) (g x : ℕ) (p q : Progression) → p ≡ beginnings a 0 → q ≡ beginnings b (g - x)
+    → g ≡ gcd a.repeat b.repeat → x ≡ gap g a.start b.start → g ≤ 64000000 → x < g → Agree p.step p.first q.step q.first
+agree_second a b g x p q ep eq eg ex gl xg =
+    let is = gap_is g a.start b.start (omega arith) in
+    let v : ℕ = g - x in
+    agree a b 0 v (is.1.0 + 1) is.0 p q ep eq (omega arith) (omega arith)
+    (subst (λ (g : ℕ). a.start + 0 + (is.1.0 + 1) * g ≡ b.start + v + is.0 * g) eg (omega (arith, is.1.1)))
+
+-- where they meet while both last, occurrences overlap
+pub overlapping : (a b : Entry) (r : OccurrencePair) (u v : ℕ) (p q : Progression) → p ≡ beginnings a u → q ≡ beginnings b v → u < a.span → v < b.span
+    → Meet p.step p.first q.step q.first r.first r.second → Overlapping (endless a) (endless b) r
+overlapping a b r u v p q ep eq ua vb m =
+    let h : Meet a.repeat (a.start + u) b.repeat (b.start + v) r.first r.second =
+    subst (λ (q : Progression). Meet a.repeat (a.start + u) q.step q.first r.first r.second) eq
+    (subst (λ (p : Progression). Meet p.step p.first q.step q.first r.first r.second) ep m) in
+    record {
+      overlap = (begin (endless a) r.first + u, ((omega arith, omega arith), (omega (arith, h.same), omega (arith, h.same))));
+      first_limit = omega (arith, h.first_bound, b.early, b.often, b.short);
+      second_limit = omega (arith, h.second_bound, a.early, a.often, a.short);
     }
-
-pub agree_second : (a b : Entry) (g x : ℕ) → g ≡ gcd a.repeat b.repeat → x ≡ gap g a.start b.start → g ≤ 64000000 → x < g
-    → Agree a.repeat a.start b.repeat (b.start + (g - x))
-agree_second a b g x eg ex gl xg =
-    let is = gap_is g a.start b.start (omega arith) in record {
-      p_positive = a.repeats;
-      p_limit = a.often;
-      q_positive = b.repeats;
-      q_limit = b.often;
-      a_limit = omega (arith, a.early);
-      b_limit = omega (arith, b.early);
-      rests = subst (λ (n : ℕ). a.start % n ≡ (b.start + (g - x)) % n) eg
-          (multiples_rest a.start (b.start + (g - x)) g (is.1.0 + 1) is.0 (omega (arith, is.1.1)));
-    }
-
--- progressions that meet there are occurrences that overlap
-pub meet_first : (a b : Entry) (r : OccurrencePair) (x : ℕ) → x < a.span
-    → Meet a.repeat (a.start + x) b.repeat b.start r.first r.second → Overlapping (endless a) (endless b) r
-meet_first a b r x lt h = record {
-  overlap = (begin (endless b) r.second, ((omega (arith, h.same), omega (arith, h.same)), (omega arith, omega (arith, b.lasts))));
-  first_limit = omega (arith, h.first_bound, b.early, b.often);
-  second_limit = omega (arith, h.second_bound, a.early, a.often, a.short);
-}
-
-pub meet_second : (a b : Entry) (r : OccurrencePair) (x : ℕ) → x < b.span
-    → Meet a.repeat a.start b.repeat (b.start + x) r.first r.second → Overlapping (endless a) (endless b) r
-meet_second a b r x lt h = record {
-  overlap = (begin (endless a) r.first, ((omega arith, omega (arith, a.lasts)), (omega (arith, h.same), omega (arith, h.same))));
-  first_limit = omega (arith, h.first_bound, b.early, b.often, b.short);
-  second_limit = omega (arith, h.second_bound, a.early, a.often);
-}
 
 -- of an entry's own occurrences, the later one begins at least one repeat after the earlier
 one_repeat : (s p u m n t : ℕ) → u ≤ p → m < n → s + n * p ≤ t → t < s + m * p + u → ⊥
@@ -109,9 +121,10 @@ overlapping_itself a lt = record {
   };
 }
 
-pub outlasts_says : (a : Entry) → MatchBool (ltb a.repeat a.span) (OverlappingItself (endless a) (record { first = 0; second = 1 })) (NeverItself (endless a))
-outlasts_says a = by (ltb a.repeat a.span) refl
+-- an occurrence lasts until the next one begins, or no two overlap
+pub itself_says : (a : Entry) → MatchOption (then_some (ltb a.repeat a.span) (record { first = 0; second = 1 })) (NeverItself (endless a)) (OverlappingItself (endless a))
+itself_says a = by (ltb a.repeat a.span) refl
   where
-    by : (t : Bool) → ltb a.repeat a.span ≡ t → MatchBool t (OverlappingItself (endless a) (record { first = 0; second = 1 })) (NeverItself (endless a))
+    by : (t : Bool) → ltb a.repeat a.span ≡ t → MatchOption (then_some t (record { first = 0; second = 1 })) (NeverItself (endless a)) (OverlappingItself (endless a))
     by true e = overlapping_itself a (ltb-true a.repeat a.span e)
     by false e = never_itself a (ltb-false a.repeat a.span e)

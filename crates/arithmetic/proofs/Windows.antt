@@ -8,7 +8,7 @@ use Rattle.arithmetic.specs.Meetings.{Meet}
 use Rattle.arithmetic.specs.Occurrences.{Repeating, begin, Overlap, Ever}
 use Rattle.arithmetic.proofs.Divisions.{rounded_up}
 use Rattle.arithmetic.proofs.Factors.{identity, inverse, inverse_solves, divisor_is_determined}
-use Rattle.arithmetic.proofs.Meetings.{multiples_rest, steps, other_steps, quotient_positive, meeting}
+use Rattle.arithmetic.proofs.Meetings.{multiples_rest, quotient_positive, meeting}
 
 pub gcd_greatest : (p q : ℕ) → Greatest p q (gcd p q)
 gcd_greatest p q = (divisor_is_determined p q).exists
@@ -25,11 +25,13 @@ met p q a b pp qp same =
     let x : ℕ = inverse q r in
     let is : g ≡ gcd p q = (divisor_is_determined p q).only g h.greatest in
     let size : ℕ = q / g * p in
-    let behind : ℕ = b - (a + gap q a b / g * x % (q / g) * p) in
+    let e : ℕ = gap q a b in
+    let behind : ℕ = b - (a + e / g * x % (q / g) * p) in
     let w : ℕ = behind / size + min 1 (behind % size) in
-    let up = rounded_up behind size w (mul-pos (quotient_positive p q g x a b w pp qp h.greatest) pp) refl in
+    let up = rounded_up behind size w (mul-pos (quotient_positive p q g pp qp h.greatest) pp) refl in
     let rests = subst (λ (g : ℕ). a % g ≡ b % g) (sym is) same in
-    (steps p q g x a b w pp qp h.greatest, (other_steps p q g x a b w pp qp h.greatest, meeting p q g x a b w pp qp h.greatest up (inverse_solves p q r qp h) rests))
+    let z = meeting p q g pp qp h.greatest x a b e w up refl (inverse_solves p q r qp h) rests in
+    (e / g * x % (q / g) + q / g * w, ((a + (e / g * x % (q / g) + q / g * w) * p - b) / q, z))
 
 gcd_swap : (p q : ℕ) → gcd p q ≡ gcd q p
 gcd_swap p q =

@@ -1,5 +1,5 @@
 // Division rounded up.
-ghost use Rattle.std.specs.Prelude.{◌≡◌, ◌<◌};
+ghost use Rattle.std.specs.Prelude.{◌≡◌};
 ghost use Rattle.std.specs.NonZero.{non_zero_u64_get};
 ghost use Rattle.arithmetic.specs.Division.{RoundedUp, divided_up};
 
@@ -10,13 +10,5 @@ pub fn divide_up(total: u64, size: NonZeroU64) -> u64
     ensures least { RoundedUp total (non_zero_u64_get size) result }
     ensures value { result ≡ divided_up total (non_zero_u64_get size) }
 {
-    rounded_up(total, size.get())
-}
-
-pub(crate) fn rounded_up(total: u64, size: u64) -> u64
-    requires { 0 < size }
-    ensures least { RoundedUp total size result }
-    ensures value { result ≡ divided_up total size }
-{
-    total.div_ceil(size)
+    total.div_ceil(size.get())
 }

@@ -6,17 +6,13 @@ ghost use Rattle.arithmetic.specs.Factors.{Identity, Reduced};
 pub fn gcd(a: u64, b: u64) -> u64
     ensures { Greatest a b result }
 {
-    euclid(a, b)
-}
-
-fn euclid(a: u64, b: u64) -> u64
-    ensures { Greatest a b result }
-{
-    if b == 0 { a } else { euclid(b, a % b) }
+    if b == 0 { a } else { gcd(b, a % b) }
 }
 
 // Bézout's identity in unsigned numbers: a·x − b·y = divisor or, where `swapped`, b·y − a·x = divisor.
-#[derive(Clone, Copy)]
+// Kept: `swapped` is a sign beside two factors; an enum of the two orders is turned over at each step as this flag is, and
+// signed factors hold only half of the numbers.
+#[derive(Clone, Copy, PartialEq, Eq, Debug)]
 pub struct Bezout {
     pub divisor: u64,
     pub x: u64,
@@ -25,15 +21,8 @@ pub struct Bezout {
 }
 
 // The greatest common divisor with factors that combine `a` and `b` to it. The factors stay so small that
-// nothing overflows, whatever `a` and `b` are.
+// nothing overflows, whatever `a` and `b` are; and 0 as second number takes no part.
 pub fn extended_gcd(a: u64, b: u64) -> Bezout
-    ensures { Identity a b result }
-{
-    extended_euclid(a, b)
-}
-
-// As above, with what the recursion needs besides: 0 as second number takes no part.
-fn extended_euclid(a: u64, b: u64) -> Bezout
     ensures identity { Identity a b result }
     ensures reduced { Reduced b result }
 {
@@ -45,7 +34,7 @@ fn extended_euclid(a: u64, b: u64) -> Bezout
             swapped: false,
         };
     }
-    let next = extended_euclid(b, a % b);
+    let next = extended_gcd(b, a % b);
     Bezout {
         divisor: next.divisor,
         x: next.y,

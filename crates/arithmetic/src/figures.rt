@@ -29,19 +29,19 @@ impl Entry {
     pub fn start(&self) -> u64
         ensures { result ≡ self.now.start }
     {
-        self.start as u64
+        u64::from(self.start)
     }
 
     pub fn repeat(&self) -> u64
         ensures { result ≡ self.now.repeat }
     {
-        self.repeat as u64
+        u64::from(self.repeat)
     }
 
     pub fn span(&self) -> u64
         ensures { result ≡ self.now.span }
     {
-        self.span as u64
+        u64::from(self.span)
     }
 
     // When an occurrence begins.

@@ -1,6 +1,6 @@
 // Whether two entries ever overlap. Nothing is unrolled and nothing is searched: the greatest common divisor of the
 // repeats decides, and the extended algorithm names occurrences that overlap.
-ghost use Rattle.std.specs.Prelude.{◌≡◌, ◌<◌, ◌≤◌, false, MatchBool, MatchOption};
+ghost use Rattle.std.specs.Prelude.{◌≡◌, ◌+◌, ◌<◌, ◌≤◌, false, MatchBool, MatchOption};
 ghost use Rattle.arithmetic.specs.Divisors.{gcd};
 ghost use Rattle.arithmetic.specs.Entries.{endless, Overlapping, OverlappingItself};
 ghost use Rattle.arithmetic.specs.Laws.{apart as apart?, gap as gap_of};
@@ -9,7 +9,7 @@ ghost use Rattle.arithmetic.specs.Occurrences.{Never, NeverItself};
 use crate::entry::Entry;
 use crate::euclid;
 use crate::pair::OccurrencePair;
-use crate::progressions::meeting;
+use crate::progressions::{Progression, gap, meeting};
 
 // Occurrences of `a` and `b` that overlap; none exactly when no two of them do, without end in time.
 pub fn overlap(a: &Entry, b: &Entry) -> Option<OccurrencePair>
@@ -18,25 +18,36 @@ pub fn overlap(a: &Entry, b: &Entry) -> Option<OccurrencePair>
     if apart(a, b) { None } else { Some(meet(a, b)) }
 }
 
-// Two different occurrences of `a` that overlap; none exactly when no two do.
+// Two different occurrences of `a` that overlap; none exactly when no two do, since none lasts until the next begins.
 pub fn overlaps_itself(a: &Entry) -> Option<OccurrencePair>
     ensures { MatchOption result (NeverItself (endless a.now)) (OverlappingItself (endless a.now)) }
 {
-    if outlasts_repeat(a) {
-        Some(OccurrencePair {
-            first: 0,
-            second: 1,
-        })
-    } else {
-        None
-    }
+    let pair = OccurrencePair {
+        first: 0,
+        second: 1,
+    };
+    (a.span > a.repeat).then_some(pair)
 }
 
-// Whether an occurrence still lasts when the next one begins. If not, no two overlap.
-fn outlasts_repeat(a: &Entry) -> bool
-    ensures { MatchBool result (OverlappingItself (endless a.now) (record { first = 0; second = 1 })) (NeverItself (endless a.now)) }
-{
-    a.span > a.repeat
+// How two entries lie to each other: the greatest common divisor of their repeats, and the start of the second minus the
+// start of the first, modulo the divisor.
+#[derive(Clone, Copy)]
+struct Shift {
+    divisor: u64,
+    gap: u64,
+}
+
+impl Shift {
+    fn between(a: &Entry, b: &Entry) -> Shift
+        ensures divisor { result.divisor ≡ gcd a.now.repeat b.now.repeat }
+        ensures limit { result.divisor ≤ 64000000 }
+        ensures gap { result.gap ≡ gap_of result.divisor a.now.start b.now.start }
+        ensures below { result.gap < result.divisor }
+    {
+        let divisor = euclid::gcd(a.repeat(), b.repeat());
+        let gap = gap(divisor, a.start(), b.start());
+        Shift { divisor, gap }
+    }
 }
 
 // Whether no two occurrences overlap: modulo the divisor of the repeats, `b` starts no sooner than `a` ends, and ends
@@ -44,27 +55,8 @@ fn outlasts_repeat(a: &Entry) -> bool
 fn apart(a: &Entry, b: &Entry) -> bool
     ensures { MatchBool result (Never (endless a.now) (endless b.now)) (apart? (endless a.now) (endless b.now) ≡ false) }
 {
-    let g = shared_repeat(a, b);
-    let x = gap(g, a, b);
-    a.span as u64 <= x && b.span as u64 <= g - x
-}
-
-// The greatest common divisor of the repeats.
-fn shared_repeat(a: &Entry, b: &Entry) -> u64
-    ensures value { result ≡ gcd a.now.repeat b.now.repeat }
-    ensures positive { 0 < result }
-    ensures limit { result ≤ 64000000 }
-{
-    euclid::gcd(a.repeat as u64, b.repeat as u64)
-}
-
-// The start of `b` minus the start of `a`, modulo `g`.
-fn gap(g: u64, a: &Entry, b: &Entry) -> u64
-    requires { (0 < g) × (g ≤ 64000000) }
-    ensures value { result ≡ gap_of g a.now.start b.now.start }
-    ensures limit { result < g }
-{
-    (b.start as u64 + (g - a.start as u64 % g)) % g
+    let shift = Shift::between(a, b);
+    a.span() <= shift.gap && b.span() <= shift.divisor - shift.gap
 }
 
 // Occurrences that overlap, of two entries that are not apart: one begins while the other lasts.
@@ -72,21 +64,21 @@ fn meet(a: &Entry, b: &Entry) -> OccurrencePair
     requires { apart? (endless a.now) (endless b.now) ≡ false }
     ensures { Overlapping (endless a.now) (endless b.now) result }
 {
-    let g = shared_repeat(a, b);
-    let x = gap(g, a, b);
-    if x < a.span as u64 {
-        meeting(
-            a.repeat as u64,
-            a.start as u64 + x,
-            b.repeat as u64,
-            b.start as u64,
-        )
+    let shift = Shift::between(a, b);
+    if shift.gap < a.span() {
+        meeting(beginnings(a, shift.gap), beginnings(b, 0))
     } else {
-        meeting(
-            a.repeat as u64,
-            a.start as u64,
-            b.repeat as u64,
-            b.start as u64 + (g - x),
-        )
+        meeting(beginnings(a, 0), beginnings(b, shift.divisor - shift.gap))
+    }
+}
+
+// When the occurrences would begin if the first began so much later.
+fn beginnings(entry: &Entry, later: u64) -> Progression
+    requires { later ≤ 64000000 }
+    ensures { result ≡ record { first = entry.now.start + later; step = entry.now.repeat } }
+{
+    Progression {
+        first: entry.start() + later,
+        step: entry.repeat(),
     }
 }

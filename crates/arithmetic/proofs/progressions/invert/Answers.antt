@@ -1,25 +1,17 @@
-use Rattle.std.proofs.Common.{◌≡◌, ◌-◌, ◌*◌, ◌%◌, Bool, cond, subst, arith}
+use Rattle.std.proofs.Common.{◌≡◌, ◌-◌, ◌*◌, ◌%◌, Bool, cond, subst}
 use Rattle.arithmetic.proofs.Factors.{inverse_solves}
 use Rattle.arithmetic.proofs.progressions.invert.Goals as goal
 
-pub returns-then-r : goal.returns-then-r
-returns-then-r c =
+pub returns-then-r-clause-solves : goal.returns-then-r-clause-solves
+returns-then-r-clause-solves c =
     let a = c.args.a in
     let b = c.args.b in
     let r = c.extended_gcd-r.result in
-    let h = c.extended_gcd-r.ensures in record {
-      greatest = h.greatest;
-      solves = subst (λ (s : Bool). (a * cond s (b - r.x) r.x) % b ≡ r.divisor % b) c.if-r.true (inverse_solves a b r c.requires h);
-      bound = omega arith;
-    }
+    subst (λ (s : Bool). (a * cond s (b - r.x) r.x) % b ≡ r.divisor % b) c.if-r.true (inverse_solves a b r c.requires c.extended_gcd-r.ensures.identity)
 
-pub returns-else-r : goal.returns-else-r
-returns-else-r c =
+pub returns-else-r-clause-solves : goal.returns-else-r-clause-solves
+returns-else-r-clause-solves c =
     let a = c.args.a in
     let b = c.args.b in
     let r = c.extended_gcd-r.result in
-    let h = c.extended_gcd-r.ensures in record {
-      greatest = h.greatest;
-      solves = subst (λ (s : Bool). (a * cond s (b - r.x) r.x) % b ≡ r.divisor % b) c.if-r.false (inverse_solves a b r c.requires h);
-      bound = omega (arith, h.x_bound);
-    }
+    subst (λ (s : Bool). (a * cond s (b - r.x) r.x) % b ≡ r.divisor % b) c.if-r.false (inverse_solves a b r c.requires c.extended_gcd-r.ensures.identity)
