@@ -35,14 +35,14 @@ fn factors(rt: HostRuntime) {
     ];
     for (a, b) in table {
         let r = extended_gcd(a, b);
-        let first = u128::from(a).wrapping_mul(u128::from(r.x));
-        let second = u128::from(b).wrapping_mul(u128::from(r.y));
+        let first = u128::from(a) * u128::from(r.x);
+        let second = u128::from(b) * u128::from(r.y);
         let (more, less) = if r.swapped {
             (second, first)
         } else {
             (first, second)
         };
-        assert_eq!(rt; more, less.wrapping_add(u128::from(gcd(a, b))));
+        assert_eq!(rt; more, less + u128::from(gcd(a, b)));
     }
 }
 
@@ -60,10 +60,10 @@ fn rounding_up(rt: HostRuntime) -> Result<(), Fail> {
         (u64::MAX, 2, 9_223_372_036_854_775_808),
     ];
     for (total, size, parts) in table {
-        match NonZeroU64::new(size) {
-            None => return Err(Fail::new("no part has size 0")),
-            Some(size) => assert_eq!(rt; divide_up(total, size), parts),
-        }
+        let Some(size) = NonZeroU64::new(size) else {
+            return Err(Fail::new("no part has size 0"));
+        };
+        assert_eq!(rt; divide_up(total, size), parts);
     }
     Ok(())
 }

@@ -3,8 +3,8 @@ use std::test::Fail;
 
 type Figures = (u64, u64, u64);
 
-fn entry(f: Figures) -> Result<Entry, Fail> {
-    Ok(Entry::new(f.0, f.1, f.2)?)
+fn entry((start, repeat, span): Figures) -> Result<Entry, Fail> {
+    Ok(Entry::new(start, repeat, span)?)
 }
 
 #[test]
@@ -21,8 +21,8 @@ fn never(rt: HostRuntime) -> Result<(), Fail> {
     for (a, b) in table {
         let a = entry(a)?;
         let b = entry(b)?;
-        assert!(rt; overlap(&a, &b) == None);
-        assert!(rt; overlap(&b, &a) == None);
+        assert_eq!(rt; overlap(&a, &b), None);
+        assert_eq!(rt; overlap(&b, &a), None);
     }
     Ok(())
 }
@@ -39,19 +39,19 @@ fn sometime(rt: HostRuntime) -> Result<(), Fail> {
     ];
     for (a, b, first, second) in table {
         let pair = overlap(&entry(a)?, &entry(b)?);
-        assert!(rt; pair == Some(OccurrencePair { first, second }));
+        assert_eq!(rt; pair, Some(OccurrencePair { first, second }));
     }
     Ok(())
 }
 
 #[test]
 fn itself(rt: HostRuntime) -> Result<(), Fail> {
-    assert!(rt; overlaps_itself(&entry((0, 100, 100))?) == None);
-    assert!(rt; overlaps_itself(&entry((0, 64_000_000, 1_000_000))?) == None);
+    assert_eq!(rt; overlaps_itself(&entry((0, 100, 100))?), None);
+    assert_eq!(rt; overlaps_itself(&entry((0, 64_000_000, 1_000_000))?), None);
     let next = OccurrencePair {
         first: 0,
         second: 1,
     };
-    assert!(rt; overlaps_itself(&entry((7, 100, 101))?) == Some(next));
+    assert_eq!(rt; overlaps_itself(&entry((7, 100, 101))?), Some(next));
     Ok(())
 }

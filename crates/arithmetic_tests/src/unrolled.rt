@@ -13,14 +13,7 @@ fn meet(a: &Entry, m: u64, b: &Entry, n: u64) -> bool {
 }
 
 fn ever(a: &Entry, b: &Entry) -> bool {
-    for m in 0..ROUNDS {
-        for n in 0..ROUNDS {
-            if meet(a, m, b, n) {
-                return true;
-            }
-        }
-    }
-    false
+    (0..ROUNDS).any(|m| (0..ROUNDS).any(|n| meet(a, m, b, n)))
 }
 
 fn against_all(rt: &impl Abort, a: &Entry) -> Result<(), Fail> {
@@ -58,7 +51,7 @@ fn small_entries_themselves(rt: HostRuntime) -> Result<(), Fail> {
             match overlaps_itself(&a) {
                 None => assert!(rt; !meet(&a, 0, &a, 1)),
                 Some(pair) => {
-                    assert!(rt; pair.first != pair.second);
+                    assert_ne!(rt; pair.first, pair.second);
                     assert!(rt; meet(&a, pair.first, &a, pair.second));
                 }
             }
