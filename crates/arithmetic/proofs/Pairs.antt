@@ -1,6 +1,6 @@
 -- From entries to endless intervals, and from meetings to overlaps.
 use Rattle.std.proofs.Common.{◌≡◌, ℕ, ◌+◌, ◌-◌, ◌*◌, ◌<◌, ◌≤◌, Bool, true, false, ◌&&◌, ltb, leb, MatchBool, MatchOption, sym, refl, ap, ◌∙◌, subst, ⊎_elim, mul-le-mul_right, arith}
-use Rattle.std.proofs.lemmas.Bool.{le-leb, lt-leb, ltb-true, ltb-false, and_from, both_ways, cases_lt, cases_order}
+use Rattle.std.proofs.lemmas.Bool.{le-leb, ltb-true, ltb-false, and_from, both_ways, cases_lt, cases_order}
 use Rattle.arithmetic.specs.declared.entry.Entry.{Entry}
 use Rattle.arithmetic.specs.declared.pair.OccurrencePair.{OccurrencePair}
 use Rattle.arithmetic.specs.declared.progressions.Progression.{Progression}
@@ -32,9 +32,6 @@ test_is a b g x eg ex =
 
 pub and_known : (u d : ℕ) (t : Bool) → u ≤ d → t ≡ (leb u d && t)
 and_known u d t le = sym (ap (λ b. b && t) (le-leb u d le))
-
-pub and_refused : (u d : ℕ) (t : Bool) → d < u → leb u d ≡ (leb u d && t)
-and_refused u d t lt = lt-leb u d lt ∙ sym (ap (λ b. b && t) (lt-leb u d lt))
 
 -- the first span is above the gap, or the second above what is left of the divisor
 pub not_apart : (a b : Entry) (g x : ℕ) → g ≡ gcd a.repeat b.repeat → x ≡ gap g a.start b.start

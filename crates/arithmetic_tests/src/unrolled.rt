@@ -9,7 +9,7 @@ const ROUNDS: u64 = 70;
 fn meet(a: &Entry, m: u64, b: &Entry, n: u64) -> bool {
     let s = a.begin(m);
     let t = b.begin(n);
-    s < t.wrapping_add(u128::from(b.span())) && t < s.wrapping_add(u128::from(a.span()))
+    s < t + u128::from(b.span()) && t < s + u128::from(a.span())
 }
 
 fn ever(a: &Entry, b: &Entry) -> bool {
