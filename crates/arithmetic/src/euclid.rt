@@ -10,9 +10,8 @@ pub fn gcd(a: u64, b: u64) -> u64
 }
 
 // Bézout's identity in unsigned numbers: a·x − b·y = divisor or, where `swapped`, b·y − a·x = divisor.
-// Kept: `swapped` is a sign beside two factors; an enum of the two orders is turned over at each step as this flag is, and
-// signed factors hold only half of the numbers.
-#[derive(Clone, Copy, PartialEq, Eq, Debug)]
+// Kept: `swapped` is a sign: an enum of two orders would turn over by a `match`, not by `!`, and `i64` factors hold too little.
+#[derive(Clone, Copy)]
 pub struct Bezout {
     pub divisor: u64,
     pub x: u64,

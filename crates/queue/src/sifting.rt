@@ -1,4 +1,6 @@
 // Restoring the heap order after one record has changed.
+// Kept: a heap over lent places, since the library's `BinaryHeap` owns its records on an allocator.
+// Kept: `while` loops, since a path through the heap halves or doubles its place, and no iterator over the slice does.
 ghost use Rattle.std.specs.Prelude.{◌≡◌, ◌+◌, ◌*◌, ◌<◌, ◌≤◌, length, slice_index_or};
 ghost use Rattle.std.specs.BinaryHeap.Sift.{IsGreaterChild, SiftsUp, SiftsDown};
 ghost use Rattle.std.specs.List.Sorted.{IsPermutation};
@@ -15,7 +17,6 @@ fn is_before<T: Ranked>(queue: &[T], i: usize, j: usize) -> bool
 }
 
 // Lets the record at `start` rise until none above it ranks after it.
-// Kept: the places of a path through the heap are halved or doubled, which no iterator over the slice gives.
 pub(crate) fn sift_up<T: Ranked>(queue: &mut [T], start: usize)
     requires { start < length queue.old }
     ensures shuffled { IsPermutation queue.old queue.new }
