@@ -10,7 +10,7 @@ pub fn gcd(a: u64, b: u64) -> u64
 }
 
 // Bézout's identity in unsigned numbers: a·x − b·y = divisor or, where `swapped`, b·y − a·x = divisor.
-// Kept: `swapped` is a sign: an enum of two orders would turn over by a `match`, not by `!`, and `i64` factors hold too little.
+// Kept: `swapped` is the sign of both factors at once; an enum of two orders would turn over by a `match` and not by `!`.
 #[derive(Clone, Copy)]
 pub struct Bezout {
     pub divisor: u64,

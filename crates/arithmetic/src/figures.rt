@@ -13,10 +13,10 @@ impl Entry {
         if start > START_MAX {
             return Err(OutOfLimits::Start(start));
         }
-        if repeat == 0 || repeat > REPEAT_MAX {
+        if !(1..=REPEAT_MAX).contains(&repeat) {
             return Err(OutOfLimits::Repeat(repeat));
         }
-        if span == 0 || span > SPAN_MAX {
+        if !(1..=SPAN_MAX).contains(&span) {
             return Err(OutOfLimits::Span(span));
         }
         Ok(Entry {
