@@ -21,9 +21,9 @@ impl Record for ActivityField {
 
     const LEN: u16 = 12;
 
-    ghost tag = { 84 };
+    ghost TAG = { 84 };
 
-    ghost len = { 12 };
+    ghost LEN = { 12 };
 
     ghost parse = { activity_in };
 
@@ -36,14 +36,6 @@ impl Record for ActivityField {
     ghost back = { activity_back };
 
     ghost again = { activity_again };
-
-    fn tag_byte() -> u8 {
-        Self::TAG
-    }
-
-    fn body_len() -> u16 {
-        Self::LEN
-    }
 
     fn read(body: &[u8]) -> ActivityField {
         ActivityField {

@@ -17,9 +17,9 @@ impl Record for ApplicationField {
 
     const LEN: u16 = 8;
 
-    ghost tag = { 65 };
+    ghost TAG = { 65 };
 
-    ghost len = { 8 };
+    ghost LEN = { 8 };
 
     ghost parse = { application_in };
 
@@ -32,14 +32,6 @@ impl Record for ApplicationField {
     ghost back = { application_back };
 
     ghost again = { application_again };
-
-    fn tag_byte() -> u8 {
-        Self::TAG
-    }
-
-    fn body_len() -> u16 {
-        Self::LEN
-    }
 
     fn read(body: &[u8]) -> ApplicationField {
         ApplicationField {

@@ -18,9 +18,9 @@ impl Record for CellField {
 
     const LEN: u16 = 7;
 
-    ghost tag = { 67 };
+    ghost TAG = { 67 };
 
-    ghost len = { 7 };
+    ghost LEN = { 7 };
 
     ghost parse = { cell_in };
 
@@ -33,14 +33,6 @@ impl Record for CellField {
     ghost back = { cell_back };
 
     ghost again = { cell_again };
-
-    fn tag_byte() -> u8 {
-        Self::TAG
-    }
-
-    fn body_len() -> u16 {
-        Self::LEN
-    }
 
     fn read(body: &[u8]) -> CellField {
         CellField {

@@ -17,9 +17,9 @@ impl Record for EdgeField {
 
     const LEN: u16 = 4;
 
-    ghost tag = { 69 };
+    ghost TAG = { 69 };
 
-    ghost len = { 4 };
+    ghost LEN = { 4 };
 
     ghost parse = { edge_in };
 
@@ -32,14 +32,6 @@ impl Record for EdgeField {
     ghost back = { edge_back };
 
     ghost again = { edge_again };
-
-    fn tag_byte() -> u8 {
-        Self::TAG
-    }
-
-    fn body_len() -> u16 {
-        Self::LEN
-    }
 
     fn read(body: &[u8]) -> EdgeField {
         EdgeField {

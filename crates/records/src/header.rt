@@ -17,9 +17,9 @@ impl Record for Header {
 
     const LEN: u16 = 6;
 
-    ghost tag = { 72 };
+    ghost TAG = { 72 };
 
-    ghost len = { 6 };
+    ghost LEN = { 6 };
 
     ghost parse = { header_in };
 
@@ -32,14 +32,6 @@ impl Record for Header {
     ghost back = { header_back };
 
     ghost again = { header_again };
-
-    fn tag_byte() -> u8 {
-        Self::TAG
-    }
-
-    fn body_len() -> u16 {
-        Self::LEN
-    }
 
     fn read(body: &[u8]) -> Header {
         Header {

@@ -17,9 +17,9 @@ impl Record for PointField {
 
     const LEN: u16 = 8;
 
-    ghost tag = { 80 };
+    ghost TAG = { 80 };
 
-    ghost len = { 8 };
+    ghost LEN = { 8 };
 
     ghost parse = { point_in };
 
@@ -32,14 +32,6 @@ impl Record for PointField {
     ghost back = { point_back };
 
     ghost again = { point_again };
-
-    fn tag_byte() -> u8 {
-        Self::TAG
-    }
-
-    fn body_len() -> u16 {
-        Self::LEN
-    }
 
     fn read(body: &[u8]) -> PointField {
         PointField {

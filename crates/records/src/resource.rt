@@ -17,9 +17,9 @@ impl Record for ResourceField {
 
     const LEN: u16 = 18;
 
-    ghost tag = { 82 };
+    ghost TAG = { 82 };
 
-    ghost len = { 18 };
+    ghost LEN = { 18 };
 
     ghost parse = { resource_in };
 
@@ -32,14 +32,6 @@ impl Record for ResourceField {
     ghost back = { resource_back };
 
     ghost again = { resource_again };
-
-    fn tag_byte() -> u8 {
-        Self::TAG
-    }
-
-    fn body_len() -> u16 {
-        Self::LEN
-    }
 
     fn read(body: &[u8]) -> ResourceField {
         ResourceField {
