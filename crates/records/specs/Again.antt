@@ -24,11 +24,15 @@ module _ (xs : List ℕ) where
       ∙ ap (λ l. two_of (two_at xs 0) ++ l) (four_piece xs h 2 (omega arith))
       ∙ two_piece xs h 0 (omega arith)
 
+  -- two numbers of four bytes
+  fours_again : length xs ≡ 8 → AllByRecursion (λ b. b < 256) xs → four_of (four_at xs 0) ++ four_of (four_at xs 4) ≡ xs
+  fours_again e h = ap (λ l. four_of (four_at xs 0) ++ l) (four_last xs h 4 (omega arith)) ∙ four_piece xs h 0 (omega arith)
+
   pub application_again : length xs ≡ 8 → AllByRecursion (λ b. b < 256) xs → application_bytes (application_in xs) ≡ xs
-  application_again e h = ap (λ l. four_of (four_at xs 0) ++ l) (four_last xs h 4 (omega arith)) ∙ four_piece xs h 0 (omega arith)
+  application_again = fours_again
 
   pub point_again : length xs ≡ 8 → AllByRecursion (λ b. b < 256) xs → point_bytes (point_in xs) ≡ xs
-  point_again e h = ap (λ l. four_of (four_at xs 0) ++ l) (four_last xs h 4 (omega arith)) ∙ four_piece xs h 0 (omega arith)
+  point_again = fours_again
 
   pub activity_again : length xs ≡ 12 → AllByRecursion (λ b. b < 256) xs → activity_bytes (activity_in xs) ≡ xs
   activity_again e h =
