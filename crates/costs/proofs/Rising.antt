@@ -1,5 +1,6 @@
 -- One point more.
-use Rattle.std.proofs.Common.{◌≡◌, ℕ, ◌+◌, ◌-◌, ◌<◌, ◌≤◌, Bool, true, false, ◌&&◌, ltb, List, [], ◌∷◌, ◌++◌, length, get_or, take, sym, refl, ap, ◌∙◌, arith}
+use Rattle.std.proofs.Common.{◌≡◌, ℕ, ◌+◌, ◌-◌, ◌<◌, Bool, true, false, ◌&&◌, ltb, List, [], ◌∷◌, ◌++◌, length, get_or, take, sym, refl, ap, ◌∙◌, arith}
+use Rattle.std.proofs.Math.Seq.{take-length}
 use Rattle.std.proofs.lemmas.List.{take_more}
 use Rattle.costs.specs.declared.point.Point.{Point}
 use Rattle.costs.specs.Costs.{point_right, last_from, last_latency, right_from, points_right, may_follow}
@@ -26,10 +27,11 @@ right_from-push low (y ∷ xs) x =
 pub points_right-push : (xs : List Point) (x : Point) → points_right (xs ++ x ∷ []) ≡ points_right xs && may_follow xs x
 points_right-push xs x = right_from-push 0 xs x
 
--- the last of the first n
-pub last_taken : (items : List Point) (n : ℕ) (d : Point) → 0 < n → n ≤ length items → (get_or items (n - 1) d).latency ≡ last_latency (take n items)
-last_taken items n d pos le =
-    let back : n - 1 + 1 ≡ n = omega arith in
-    sym (last_from-push 0 (take (n - 1) items) (get_or items (n - 1) d))
-    ∙ ap last_latency (sym (take_more items (n - 1) d (omega arith)))
-    ∙ ap (λ k. last_latency (take k items)) back
+-- the last of some points
+pub last_of : (xs : List Point) (d : Point) → 0 < length xs → (get_or xs (length xs - 1) d).latency ≡ last_latency xs
+last_of xs d pos =
+    let back : length xs - 1 + 1 ≡ length xs = omega arith in
+    sym (last_from-push 0 (take (length xs - 1) xs) (get_or xs (length xs - 1) d))
+    ∙ ap last_latency (sym (take_more xs (length xs - 1) d (omega arith)))
+    ∙ ap (λ k. last_latency (take k xs)) back
+    ∙ ap last_latency (take-length xs)

@@ -1,9 +1,10 @@
 // Gathering points.
-ghost use Rattle.std.specs.Prelude.{◌≡◌, ◌&&◌, [], ◌∷◌, ◌++◌, length, if◌then◌else◌, nat_lt};
+ghost use Rattle.std.specs.Prelude.{◌≡◌, [], ◌∷◌, ◌++◌, length, if◌then◌else◌, is_ok};
+ghost use Rattle.std.specs.Result.{result_err};
 ghost use Rattle.costs.specs.Costs.{last_latency, may_follow, point_right};
-ghost use Rattle.costs.specs.Tables.{points_of};
+ghost use Rattle.costs.specs.Tables.{points_of, push_fault};
 
-use crate::point::Point;
+use crate::point::{Point, PointFault};
 use crate::points::Points;
 
 const NO_POINT: Point = Point {
@@ -16,8 +17,7 @@ impl Point {
     pub fn is_right(self) -> bool
         ensures { result ≡ point_right self }
     {
-        (1 <= self.latency && self.latency <= 2_000_000)
-            && (1_000 <= self.cost && self.cost <= 1_000_000)
+        (1..=2_000_000).contains(&self.latency) && (1_000..=1_000_000).contains(&self.cost)
     }
 }
 
@@ -32,20 +32,26 @@ impl Points {
         }
     }
 
+    pub fn as_slice(&self) -> &[Point]
+        ensures { result.now ≡ points_of self.now }
+    {
+        &self.items[..self.count]
+    }
+
     pub fn len(&self) -> usize
         ensures { result ≡ length (points_of self.now) }
     {
-        self.count
+        self.as_slice().len()
     }
 
     // The latency of the last point, or 0.
     pub fn last_latency(&self) -> u32
         ensures { result ≡ last_latency (points_of self.now) }
     {
-        if self.count == 0 {
-            return 0;
+        match self.as_slice().last() {
+            Some(point) => point.latency,
+            None => 0,
         }
-        self.items[self.count - 1].latency
     }
 
     // Whether the point is within its limits and its latency above the last one.
@@ -55,15 +61,22 @@ impl Points {
         next.is_right() && self.last_latency() < next.latency
     }
 
-    // One point more; false, and nothing is changed, where there are 20 or it may not follow.
-    pub fn push(&mut self, next: Point) -> bool
-        ensures answer { result ≡ (nat_lt (length (points_of self.old)) 20 && may_follow (points_of self.old) next) }
-        ensures after { points_of self.new ≡ (if result then points_of self.old ++ next ∷ [] else points_of self.old) }
+    // One point more; refused, nothing is changed.
+    pub fn push(&mut self, next: Point) -> Result<(), PointFault>
+        ensures answer { result_err result ≡ push_fault (points_of self.old) next }
+        ensures after { points_of self.new ≡ (if is_ok result then points_of self.old ++ next ∷ [] else points_of self.old) }
     {
-        if self.len() < 20 && self.may_follow(next) {
-            self.put(next);
-            return true;
+        if self.count == self.items.len() {
+            return Err(PointFault::Full);
         }
-        false
+        if !next.is_right() {
+            return Err(PointFault::OutOfLimits);
+        }
+        if !self.may_follow(next) {
+            return Err(PointFault::NotRising);
+        }
+        self.items[self.count] = next;
+        self.count += 1;
+        Ok(())
     }
 }

@@ -1,13 +1,12 @@
 // Cost tables: what each latency of an application costs.
 #![tactic(auto)]
 
-mod adding;
 mod gathering;
 mod point;
 mod points;
 mod table;
 mod tabling;
 
-pub use point::Point;
+pub use point::{Point, PointFault};
 pub use points::Points;
 pub use table::CostTable;

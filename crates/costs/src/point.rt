@@ -1,6 +1,17 @@
 // A point of a cost table.
-#[derive(Clone, Copy)]
+#[derive(Clone, Copy, PartialEq, Eq, Debug)]
 pub struct Point {
     pub latency: u32,
     pub cost: u32,
+}
+
+// Why a point is not taken.
+#[derive(Clone, Copy, PartialEq, Eq, Debug)]
+pub enum PointFault {
+    // there are as many points as a cost table may have
+    Full,
+    // latency or cost is outside its limits
+    OutOfLimits,
+    // the latency is not above the one before
+    NotRising,
 }

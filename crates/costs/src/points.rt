@@ -4,6 +4,7 @@ ghost use Rattle.costs.specs.Costs.{Kept};
 use crate::point::Point;
 
 // Up to 20 points within their limits, whose latencies rise strictly: the first `count` of the array.
+// Kept: the memory is fixed, and who has points or a cost table may copy it; the library's `ArrayVec` cannot be copied.
 #[derive(Clone, Copy)]
 pub struct Points {
     pub(crate) items: [Point; 20],

@@ -22,7 +22,7 @@ impl CostTable {
     pub fn points(&self) -> &[Point]
         ensures { result.now ≡ table_points self.now }
     {
-        &self.points.items[0..self.points.count]
+        self.points.as_slice()
     }
 
     pub fn last_latency(&self) -> u32

@@ -1,5 +1,5 @@
 // Points and cost tables.
-use costs::{CostTable, Point, Points};
+use costs::{CostTable, Point, PointFault, Points};
 use std::test::Fail;
 
 // A point, and whether it may follow those before it.
@@ -23,7 +23,7 @@ fn points_rise(rt: HostRuntime) -> Result<(), Fail> {
     let mut points = Points::new();
     for case in &CASES {
         let Case(latency, cost, taken) = *case;
-        assert!(rt; points.push(Point { latency, cost }) == taken);
+        assert!(rt; points.push(Point { latency, cost }).is_ok() == taken);
     }
     match CostTable::of(points) {
         Some(table) => {
@@ -40,17 +40,12 @@ fn two_to_twenty_points(rt: HostRuntime) {
     let mut points = Points::new();
     for latency in 1..21u32 {
         assert!(rt; CostTable::of(points).is_some() == (latency > 2));
-        assert!(rt;
-            points.push(Point {
-                latency,
-                cost: 1_000,
-            })
-        );
+        let cost = 1_000;
+        assert!(rt; points.push(Point { latency, cost }).is_ok());
     }
-    assert!(rt;
-        !points.push(Point {
-            latency: 21,
-            cost: 1_000,
-        }) && points.len() == 20
-    );
+    let more = Point {
+        latency: 21,
+        cost: 1_000,
+    };
+    assert!(rt; points.push(more) == Err(PointFault::Full) && points.len() == 20);
 }

@@ -3,7 +3,7 @@
 use crate::cell::CellId;
 
 // The rules that two cells, or a cell with itself, can break.
-#[derive(Clone, Copy)]
+#[derive(Clone, Copy, PartialEq, Eq, Debug)]
 pub enum PairRule {
     TurnOrder,
     Jitter,
@@ -14,7 +14,7 @@ pub enum PairRule {
 }
 
 // An occurrence of a cell that is to be placed and one of another cell would break a rule.
-#[derive(Clone, Copy)]
+#[derive(Clone, Copy, PartialEq, Eq, Debug)]
 pub struct Clash {
     pub rule: PairRule,
     pub place: u64,
@@ -24,7 +24,7 @@ pub struct Clash {
     pub second: u64,
 }
 
-#[derive(Clone, Copy)]
+#[derive(Clone, Copy, PartialEq, Eq, Debug)]
 pub enum Refusal {
     // a header or a body passes the end, or the input ends early
     EndsEarly(u64),
