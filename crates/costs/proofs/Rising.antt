@@ -2,8 +2,9 @@
 use Rattle.std.proofs.Common.{◌≡◌, ℕ, ◌+◌, ◌-◌, ◌<◌, Bool, true, false, ◌&&◌, ltb, List, [], ◌∷◌, ◌++◌, length, get_or, take, sym, refl, ap, ◌∙◌, arith}
 use Rattle.std.proofs.Math.Seq.{take-length}
 use Rattle.std.proofs.lemmas.List.{take_more}
-use Rattle.costs.specs.declared.point.Point.{Point}
-use Rattle.costs.specs.Costs.{point_right, last_from, last_latency, right_from, points_right, may_follow}
+use Rattle.records.specs.declared.point.Point.{Point}
+use Rattle.records.specs.Points.{point_right}
+use Rattle.costs.specs.Costs.{last_from, last_latency, right_from, points_right, may_follow}
 
 pub last_from-push : (low : ℕ) (xs : List Point) (x : Point) → last_from low (xs ++ x ∷ []) ≡ x.latency
 last_from-push low [] x = refl

@@ -4,7 +4,7 @@ use Rattle.std.specs.Prelude.{ℕ, zero, suc, ◌+◌, Bool, true, false, cond, 
 use Rattle.fields.specs.declared.record.FieldFault.{FieldFault}
 use Rattle.fields.specs.Fields.{reading}
 use Rattle.records.specs.Headers.{header_in}
-use Rattle.costs.specs.declared.point.Point.{Point as PointPart}
+use Rattle.records.specs.declared.point.Point.{Point as PointPart}
 use Rattle.costs.specs.Costs.{may_follow}
 use Rattle.kinds.specs.Relations.{Relations}
 use Rattle.model.specs.declared.refusal.Refusal.{Refusal}

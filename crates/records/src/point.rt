@@ -1,6 +1,6 @@
 // A point of a cost table.
-ghost use Rattle.std.specs.Prelude.{refl};
-ghost use Rattle.records.specs.Points.{point_bytes, PointFits, point_in};
+ghost use Rattle.std.specs.Prelude.{◌≡◌, refl};
+ghost use Rattle.records.specs.Points.{point_bytes, PointFits, point_in, point_right};
 ghost use Rattle.records.specs.Again.{point_again};
 ghost use Rattle.records.specs.Returned.{point_back};
 
@@ -11,6 +11,15 @@ use fields::Record;
 pub struct Point {
     pub latency: u32,
     pub cost: u32,
+}
+
+impl Point {
+    // Whether latency and cost are within their limits.
+    pub fn is_right(self) -> bool
+        ensures { result ≡ point_right self }
+    {
+        (1..=2_000_000).contains(&self.latency) && (1_000..=1_000_000).contains(&self.cost)
+    }
 }
 
 impl Record for Point {

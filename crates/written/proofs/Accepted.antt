@@ -11,7 +11,7 @@ use Rattle.records.specs.Headers.{header_in, header_bytes}
 use Rattle.kinds.specs.Relations.{Relations}
 use Rattle.model.specs.declared.refusal.Refusal.{Refusal}
 use Rattle.model.specs.declared.refusal.Refusal.TheVariants.{OutOfLimits}
-use Rattle.description.specs.declared.parts.Activity.{Activity as ActivityPart}
+use Rattle.records.specs.declared.activity.Activity.{Activity as ActivityPart}
 use Rattle.description.specs.declared.field_kind.FieldKind.{FieldKind}
 use Rattle.description.specs.declared.field_kind.FieldKind.TheVariants.{Header, Resource, Application, Point, Activity, Edge}
 use Rattle.description.specs.PlanFields.{PlanField}

@@ -9,14 +9,14 @@ use Rattle.fields.proofs.Rounds.{round_at}
 use Rattle.records.specs.declared.header.Header.{Header as Head}
 use Rattle.records.specs.Headers.{header_in, header_bytes}
 use Rattle.records.specs.Returned.{header_back}
-use Rattle.costs.specs.declared.point.Point.{Point as PointPart}
+use Rattle.records.specs.declared.point.Point.{Point as PointPart}
 use Rattle.costs.specs.Costs.{point_right, last_from, right_from, points_right, may_follow}
 use Rattle.kinds.specs.Relations.{Relations}
 use Rattle.model.specs.declared.refusal.Refusal.{Refusal}
 use Rattle.model.specs.declared.refusal.Refusal.TheVariants.{OutOfLimits}
-use Rattle.description.specs.declared.parts.Resource.{Resource as ResourcePart}
-use Rattle.description.specs.declared.parts.Activity.{Activity as ActivityPart}
-use Rattle.description.specs.declared.parts.Edge.{Edge as EdgePart}
+use Rattle.records.specs.declared.resource.Resource.{Resource as ResourcePart}
+use Rattle.records.specs.declared.activity.Activity.{Activity as ActivityPart}
+use Rattle.records.specs.declared.edge.Edge.{Edge as EdgePart}
 use Rattle.description.specs.declared.field_kind.FieldKind.{FieldKind}
 use Rattle.description.specs.declared.field_kind.FieldKind.TheVariants.{Header, Resource, Application, Point, Activity, Edge}
 use Rattle.description.specs.PlanFields.{PlanField, a_resource, a_point, an_activity, an_edge}

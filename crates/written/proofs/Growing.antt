@@ -4,14 +4,14 @@ use Rattle.std.specs.List.{flat_map, AllByRecursion}
 use Rattle.std.proofs.ByRecursion.{All-push}
 use Rattle.std.proofs.lemmas.List.{append-nil, append_assoc, flat_map_more, length_push, map_push}
 use Rattle.std.proofs.lemmas.Bool.{and_parts, and_from, or_cases, leb-true, ltb-true}
-use Rattle.costs.specs.declared.point.Point.{Point as PointPart}
+use Rattle.records.specs.declared.point.Point.{Point as PointPart}
 use Rattle.costs.specs.Costs.{points_right, may_follow}
 use Rattle.costs.proofs.Rising.{points_right-push}
 use Rattle.kinds.specs.Relations.{Relations}
 use Rattle.model.specs.declared.refusal.Refusal.{Refusal}
-use Rattle.description.specs.declared.parts.Resource.{Resource as ResourcePart}
-use Rattle.description.specs.declared.parts.Activity.{Activity as ActivityPart}
-use Rattle.description.specs.declared.parts.Edge.{Edge as EdgePart}
+use Rattle.records.specs.declared.resource.Resource.{Resource as ResourcePart}
+use Rattle.records.specs.declared.activity.Activity.{Activity as ActivityPart}
+use Rattle.records.specs.declared.edge.Edge.{Edge as EdgePart}
 use Rattle.description.specs.PlanFields.{PlanField, a_resource, a_timing, a_point, an_activity, an_edge, Timing}
 use Rattle.description.specs.declared.field_kind.FieldKind.{FieldKind}
 use Rattle.description.specs.declared.field_kind.FieldKind.TheVariants.{Header, Resource, Application, Point, Activity, Edge}
