@@ -10,7 +10,8 @@ use Rattle.records.specs.declared.header.Header.{Header as Head}
 use Rattle.records.specs.Headers.{header_in, header_bytes}
 use Rattle.records.specs.Returned.{header_back}
 use Rattle.records.specs.declared.point.Point.{Point as PointPart}
-use Rattle.costs.specs.Costs.{point_right, last_from, right_from, points_right, may_follow}
+use Rattle.records.specs.Points.{point_right}
+use Rattle.costs.specs.Costs.{last_from, right_from, points_right, may_follow}
 use Rattle.kinds.specs.Relations.{Relations}
 use Rattle.model.specs.declared.refusal.Refusal.{Refusal}
 use Rattle.model.specs.declared.refusal.Refusal.TheVariants.{OutOfLimits}

@@ -15,12 +15,11 @@ use Rattle.records.specs.Applications.{application_in, application_bytes}
 use Rattle.records.specs.Points.{point_in, point_bytes}
 use Rattle.records.specs.Activities.{activity_in, activity_bytes}
 use Rattle.records.specs.Edges.{edge_in, edge_bytes}
-use Rattle.records.specs.Again.{header_again, resource_again, application_again, point_again}
-use Rattle.records.specs.Again.{activity_again, edge_again}
+use Rattle.records.specs.Again.{header_again, resource_again, application_again, point_again, activity_again, edge_again}
 use Rattle.description.specs.declared.field_kind.FieldKind.{FieldKind}
 use Rattle.description.specs.declared.field_kind.FieldKind.TheVariants.{Header, Resource, Application, Point, Activity, Edge}
 use Rattle.description.specs.PlanFields.{PlanField, a_resource, a_timing, a_point, an_activity, an_edge}
-use Rattle.description.specs.Forms.{field_at, field_size, said, resource_said, timing_said, point_said, activity_said, edge_said}
+use Rattle.description.specs.Forms.{field_at, field_size, said}
 use Rattle.description.specs.Written.{field_bytes}
 
 pub no_ok : {A E : Type 0} {G : Type 0} (e : E) (v : A) → ◌≡◌ {A = Result A E} (Err e) (Ok v) → G
@@ -149,14 +148,14 @@ module _ (input : List ℕ) (small : AllByRecursion (λ b. b < 256) input) (at :
   pub field_taken : (k : FieldKind) (p : PlanField) → field_at k input at ≡ Ok p → Taken k input at p
   field_taken Header p e = no_ok _ p e
   field_taken Resource p e =
-      taken Resource 82 18 resource_in resource_bytes resource_said resource_again (λ x. refl) (λ x. refl)
+      taken Resource 82 18 resource_in resource_bytes a_resource resource_again (λ x. refl) (λ x. refl)
       (λ xs l h. (two_fits xs 0 h (omega arith), refl, (four_fits xs 2 h (omega arith), (four_fits xs 6 h (omega arith), (four_fits xs 10 h (omega arith), (four_fits xs 14 h (omega arith), tt)))))) refl p e
-  field_taken Application p e = taken Application 65 8 application_in application_bytes timing_said application_again (λ x. refl) (λ x. refl) (λ xs l h. tt) refl p e
-  field_taken Point p e = taken Point 80 8 point_in point_bytes point_said point_again (λ x. refl) (λ x. refl) (λ xs l h. tt) refl p e
+  field_taken Application p e = taken Application 65 8 application_in application_bytes a_timing application_again (λ x. refl) (λ x. refl) (λ xs l h. tt) refl p e
+  field_taken Point p e = taken Point 80 8 point_in point_bytes a_point point_again (λ x. refl) (λ x. refl) (λ xs l h. tt) refl p e
   field_taken Activity p e =
-      taken Activity 84 12 activity_in activity_bytes activity_said activity_again (λ x. refl) (λ x. refl)
+      taken Activity 84 12 activity_in activity_bytes an_activity activity_again (λ x. refl) (λ x. refl)
       (λ xs l h. omega (arith, All-get_or (λ b. b < 256) xs 2 0 (omega arith) h)) refl p e
-  field_taken Edge p e = taken Edge 69 4 edge_in edge_bytes edge_said edge_again (λ x. refl) (λ x. refl) (λ xs l h. tt) refl p e
+  field_taken Edge p e = taken Edge 69 4 edge_in edge_bytes an_edge edge_again (λ x. refl) (λ x. refl) (λ xs l h. tt) refl p e
 
 -- the header at the beginning
 pub header_taken : (input : List ℕ) → AllByRecursion (λ b. b < 256) input → (h : HeaderField) → reading 72 6 header_in input 0 ≡ Ok h

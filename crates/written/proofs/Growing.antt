@@ -12,7 +12,8 @@ use Rattle.model.specs.declared.refusal.Refusal.{Refusal}
 use Rattle.records.specs.declared.resource.Resource.{Resource as ResourcePart}
 use Rattle.records.specs.declared.activity.Activity.{Activity as ActivityPart}
 use Rattle.records.specs.declared.edge.Edge.{Edge as EdgePart}
-use Rattle.description.specs.PlanFields.{PlanField, a_resource, a_timing, a_point, an_activity, an_edge, Timing}
+use Rattle.description.specs.PlanFields.{PlanField, a_resource, a_timing, a_point, an_activity, an_edge}
+use Rattle.records.specs.declared.application.ApplicationField.{ApplicationField}
 use Rattle.description.specs.declared.field_kind.FieldKind.{FieldKind}
 use Rattle.description.specs.declared.field_kind.FieldKind.TheVariants.{Header, Resource, Application, Point, Activity, Edge}
 use Rattle.description.specs.Descriptions.{Application as ApplicationPart, Description}
@@ -192,7 +193,7 @@ module _ (r : Relations) (last : FieldKind) (d : Description) where
             ∙ late (map a_resource rs) _ (a_resource x) rest;
       }
 
-  grow_timing : (x : Timing) → Right r d None → Ready last Application d None → length d.applications < most_applications
+  grow_timing : (x : ApplicationField) → Right r d None → Ready last Application d None → length d.applications < most_applications
       → timing_right x.period x.bound ≡ true → Grew r d None (a_timing x) (grown (record { last = last; so_far = d; current = None }) (a_timing x))
   grow_timing x h s few sound =
       let no_activities = s.1 in
@@ -389,7 +390,7 @@ module _ (r : Relations) (last : FieldKind) (d : Description) where
       (grow_resource r last d x h s (ltb-true _ most_resources p.0) (unless_none _ _ j) fits)
   after_resource (Some a) x at t h s e fits j = absurd s
 
-  after_timing : (c : Option ApplicationPart) (x : Timing) (at : ℕ) (t : Reading) → Right r d c → Ready last Application d c
+  after_timing : (c : Option ApplicationPart) (x : ApplicationField) (at : ℕ) (t : Reading) → Right r d c → Ready last Application d c
       → settled (record { last = last; so_far = d; current = c }) Application ≡ Some t → judged r t (a_timing x) at ≡ None
       → Grew r d c (a_timing x) (grown t (a_timing x))
   after_timing c x at t h s e j =
