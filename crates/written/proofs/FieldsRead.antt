@@ -2,7 +2,8 @@
 use Rattle.std.proofs.Common.{◌≡◌, ℕ, ◌+◌, ◌-◌, ◌^◌, ◌<◌, ◌≤◌, Bool, true, false, cond, List, ◌∷◌, ◌++◌, length, get_or, drop, Ok, Err, Result, sym, refl, ap, ◌∙◌, subst, arith}
 use Rattle.std.specs.List.{between, AllByRecursion}
 use Rattle.std.proofs.ByRecursion.{All-get_or, All-take, All-drop}
-use Rattle.std.proofs.lemmas.List.{drop-drop, length-take, length-drop, take-append-drop}
+use Rattle.std.proofs.lemmas.List.{drop-drop, take-append-drop}
+use Rattle.std.proofs.lemmas.List.Edits.{length-between}
 use Rattle.std.proofs.lemmas.Bool.{eqb-true, ltb-false}
 use Rattle.fields.specs.declared.record.FieldFault.{FieldFault}
 use Rattle.fields.specs.Bytes.{two_at, four_at, two_of}
@@ -21,21 +22,16 @@ use Rattle.description.specs.declared.field_kind.FieldKind.TheVariants.{Header, 
 use Rattle.description.specs.PlanFields.{PlanField, a_resource, a_timing, a_point, an_activity, an_edge}
 use Rattle.description.specs.Forms.{field_at, field_size, said}
 use Rattle.description.specs.Written.{field_bytes}
-
-pub no_ok : {A E : Type 0} {G : Type 0} (e : E) (v : A) → ◌≡◌ {A = Result A E} (Err e) (Ok v) → G
-no_ok e v h = let z : ◌≡◌ {A = ℕ} 0 1 = cc in absurd (omega arith)
+use Rattle.written.proofs.FieldsWritten.{kind_of}
 
 -- the way of a test that leads to an `Ok`
 pub ok_else : {A E : Type 0} (b : Bool) (e : E) (y : Result A E) (v : A) → cond b (Err e) y ≡ Ok v → (b ≡ false) × (y ≡ Ok v)
-ok_else true e y v h = no_ok e v h
+ok_else true e y v h = cc
 ok_else false e y v h = (refl, h)
 
 pub ok_then : {A E : Type 0} (b : Bool) (x : Result A E) (e : E) (v : A) → cond b x (Err e) ≡ Ok v → (b ≡ true) × (x ≡ Ok v)
 ok_then true x e v h = (refl, h)
-ok_then false x e v h = no_ok e v h
-
-pub ok_same : {A E : Type 0} (x y : A) → ◌≡◌ {A = Result A E} (Ok x) (Ok y) → x ≡ y
-ok_same x y h = cc
+ok_then false x e v h = cc
 
 -- a field with this tag and length is there, and says x
 record Found {R : Type 0} (tag len : ℕ) (parse : List ℕ → R) (input : List ℕ) (at : ℕ) (x : R) : Type 0 where
@@ -45,21 +41,22 @@ record Found {R : Type 0} (tag len : ℕ) (parse : List ℕ → R) (input : List
   said_is : parse (between (at + 3) (at + 3 + len) input) ≡ x
 
 found : {R : Type 0} (tag len : ℕ) (parse : List ℕ → R) (input : List ℕ) (at : ℕ) (x : R) → reading tag len parse input at ≡ Ok x → Found tag len parse input at x
-found tag len parse input at x e =
+found {R = R} tag len parse input at x e =
     let one = ok_else _ _ _ _ e in
     let two = ok_then _ _ _ _ one.1 in
     let three = ok_then _ _ _ _ two.1 in
     let four = ok_else _ _ _ _ three.1 in
+    let same : ◌≡◌ {A = Result R FieldFault} (Ok (parse (between (at + 3) (at + 3 + len) input))) (Ok x) = four.1 in
     record {
       tag_is = eqb-true _ _ two.0;
       length_is = eqb-true _ _ three.0;
       inside = ltb-false (length input) (at + 3 + len) four.0;
-      said_is = ok_same _ _ four.1;
+      said_is = cc;
     }
 
 -- what a body is, of a field that is there
 body_length : (input : List ℕ) (at len : ℕ) → at + 3 + len ≤ length input → length (between (at + 3) (at + 3 + len) input) ≡ len
-body_length input at len inside = length-take (at + 3 + len - (at + 3)) (drop (at + 3) input) ∙ omega (arith, length-drop (at + 3) input)
+body_length input at len inside = length-between input (at + 3) (at + 3 + len) inside ∙ omega arith
 
 body_small : (input : List ℕ) (at len : ℕ) → AllByRecursion (λ b. b < 256) input → AllByRecursion (λ b. b < 256) (between (at + 3) (at + 3 + len) input)
 body_small input at len small =
@@ -97,13 +94,6 @@ four_fits : (xs : List ℕ) (i : ℕ) → AllByRecursion (λ b. b < 256) xs → 
 four_fits xs i h lt =
     omega (arith, All-get_or (λ b. b < 256) xs i 0 (omega arith) h, All-get_or (λ b. b < 256) xs (i + 1) 0 (omega arith) h, All-get_or (λ b. b < 256) xs (i + 2) 0 (omega arith) h, All-get_or (λ b. b < 256) xs (i + 3) 0 lt h)
 
-abbrev pub kind_of : PlanField → FieldKind
-kind_of (a_resource x) = Resource
-kind_of (a_timing x) = Application
-kind_of (a_point x) = Point
-kind_of (an_activity x) = Activity
-kind_of (an_edge x) = Edge
-
 -- what no limit bounds fits its bytes
 abbrev pub Fits : PlanField → Type 0
 Fits (a_resource x) = (x.kind < 2 ^ 16) × (length x.numbers ≡ 4) × AllByRecursion (λ n. n < 2 ^ 32) x.numbers
@@ -119,8 +109,8 @@ pub record Taken (k : FieldKind) (input : List ℕ) (at : ℕ) (x : PlanField) :
   pub bytes_are : drop at input ≡ field_bytes x ++ drop (at + field_size k) input
 
 said_ok : {X : Type 0} (f : X → PlanField) (a : Result X FieldFault) (p : PlanField) → said f a ≡ Ok p → (x : X) × (a ≡ Ok x) × (f x ≡ p)
-said_ok f (Ok x) p h = (x, refl, ok_same (f x) p h)
-said_ok f (Err e) p h = no_ok e p h
+said_ok f (Ok x) p h = (x, refl, cc)
+said_ok f (Err e) p h = cc
 
 module _ (input : List ℕ) (small : AllByRecursion (λ b. b < 256) input) (at : ℕ) where
   -- a field that one kind of reader gives
@@ -146,7 +136,7 @@ module _ (input : List ℕ) (small : AllByRecursion (λ b. b < 256) input) (at :
       })
 
   pub field_taken : (k : FieldKind) (p : PlanField) → field_at k input at ≡ Ok p → Taken k input at p
-  field_taken Header p e = no_ok _ p e
+  field_taken Header p e = cc
   field_taken Resource p e =
       taken Resource 82 18 resource_in resource_bytes a_resource resource_again (λ x. refl) (λ x. refl)
       (λ xs l h. (two_fits xs 0 h (omega arith), refl, (four_fits xs 2 h (omega arith), (four_fits xs 6 h (omega arith), (four_fits xs 10 h (omega arith), (four_fits xs 14 h (omega arith), tt)))))) refl p e
