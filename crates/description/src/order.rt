@@ -3,22 +3,20 @@ ghost use Rattle.std.specs.Prelude.{◌≡◌};
 ghost use Rattle.description.specs.Forms.{field_size, next_kind};
 
 use crate::field_kind::FieldKind;
-use fields::Record;
+use fields::{HEADER_LEN, Record};
 use records::{Activity, ApplicationField, Edge, Header, Point, Resource};
 
 impl FieldKind {
     // The kind of field that a tag begins after a field of this kind; none where the tag is not allowed there.
-    pub fn next(self, tag: u8) -> Option<FieldKind>
+    pub fn next(self, tag: u8) -> Option<Self>
         ensures { result ≡ next_kind self tag }
     {
         match (self, tag) {
-            (FieldKind::Header | FieldKind::Resource, Resource::TAG) => Some(FieldKind::Resource),
-            (FieldKind::Resource | FieldKind::Point, ApplicationField::TAG) => {
-                Some(FieldKind::Application)
-            },
-            (FieldKind::Application | FieldKind::Point, Point::TAG) => Some(FieldKind::Point),
-            (FieldKind::Point | FieldKind::Activity, Activity::TAG) => Some(FieldKind::Activity),
-            (FieldKind::Activity | FieldKind::Edge, Edge::TAG) => Some(FieldKind::Edge),
+            (Self::Header | Self::Resource, Resource::TAG) => Some(Self::Resource),
+            (Self::Resource | Self::Point, ApplicationField::TAG) => Some(Self::Application),
+            (Self::Application | Self::Point, Point::TAG) => Some(Self::Point),
+            (Self::Point | Self::Activity, Activity::TAG) => Some(Self::Activity),
+            (Self::Activity | Self::Edge, Edge::TAG) => Some(Self::Edge),
             _ => None,
         }
     }
@@ -28,13 +26,13 @@ impl FieldKind {
         ensures { result ≡ field_size self }
     {
         let len = match self {
-            FieldKind::Header => Header::LEN,
-            FieldKind::Resource => Resource::LEN,
-            FieldKind::Application => ApplicationField::LEN,
-            FieldKind::Point => Point::LEN,
-            FieldKind::Activity => Activity::LEN,
-            FieldKind::Edge => Edge::LEN,
+            Self::Header => Header::LEN,
+            Self::Resource => Resource::LEN,
+            Self::Application => ApplicationField::LEN,
+            Self::Point => Point::LEN,
+            Self::Activity => Activity::LEN,
+            Self::Edge => Edge::LEN,
         };
-        3 + usize::from(len)
+        HEADER_LEN + usize::from(len)
     }
 }

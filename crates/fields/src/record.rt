@@ -12,6 +12,9 @@ pub enum FieldFault {
     Length,
 }
 
+// How many bytes of a field stand before its body: the tag, and the length in two.
+pub const HEADER_LEN: usize = 3;
+
 // Each kind of field has a fixed tag and a fixed length. The ghost members of the same names are what clauses call them by.
 pub trait Record: Sized {
     const TAG: u8;

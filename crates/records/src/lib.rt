@@ -1,4 +1,5 @@
 // The seven kinds of field of plan files and table files.
+// Kept: one impl for each. A macro of our own may write none, and a generic one would lose the names of the fields.
 #![tactic(auto)]
 
 mod activity;
