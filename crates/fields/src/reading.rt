@@ -1,4 +1,5 @@
 // Reading fields.
+// Kept: the input and a place in it are two arguments, as in `get`; a struct of both would be made anew for each call.
 ghost use Rattle.std.specs.Prelude.{◌≡◌, ◌+◌, ◌<◌, ◌≤◌, length, drop, slice_index, MatchResult};
 ghost use Rattle.fields.specs.declared.record.FieldFault.TheVariants.{Short};
 ghost use Rattle.fields.specs.Bytes.{two_at};

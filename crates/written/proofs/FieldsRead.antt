@@ -33,6 +33,9 @@ pub ok_then : {A E : Type 0} (b : Bool) (x : Result A E) (e : E) (v : A) → con
 ok_then true x e v h = (refl, h)
 ok_then false x e v h = cc
 
+ok_same : {A E : Type 0} (x y : A) → ◌≡◌ {A = Result A E} (Ok x) (Ok y) → x ≡ y
+ok_same x y h = cc
+
 -- a field with this tag and length is there, and says x
 record Found {R : Type 0} (tag len : ℕ) (parse : List ℕ → R) (input : List ℕ) (at : ℕ) (x : R) : Type 0 where
   tag_is : get_or input at 0 ≡ tag
@@ -41,17 +44,16 @@ record Found {R : Type 0} (tag len : ℕ) (parse : List ℕ → R) (input : List
   said_is : parse (between (at + 3) (at + 3 + len) input) ≡ x
 
 found : {R : Type 0} (tag len : ℕ) (parse : List ℕ → R) (input : List ℕ) (at : ℕ) (x : R) → reading tag len parse input at ≡ Ok x → Found tag len parse input at x
-found {R = R} tag len parse input at x e =
+found tag len parse input at x e =
     let one = ok_else _ _ _ _ e in
     let two = ok_then _ _ _ _ one.1 in
     let three = ok_then _ _ _ _ two.1 in
     let four = ok_else _ _ _ _ three.1 in
-    let same : ◌≡◌ {A = Result R FieldFault} (Ok (parse (between (at + 3) (at + 3 + len) input))) (Ok x) = four.1 in
     record {
       tag_is = eqb-true _ _ two.0;
       length_is = eqb-true _ _ three.0;
       inside = ltb-false (length input) (at + 3 + len) four.0;
-      said_is = cc;
+      said_is = ok_same _ _ four.1;
     }
 
 -- what a body is, of a field that is there
