@@ -1,25 +1,19 @@
 -- One point more.
-use Rattle.std.proofs.Common.{◌≡◌, ℕ, ◌+◌, ◌-◌, ◌<◌, Bool, true, false, ◌&&◌, ltb, List, [], ◌∷◌, ◌++◌, length, get_or, take, sym, refl, ap, ◌∙◌, arith}
+use Rattle.std.proofs.Common.{◌≡◌, ℕ, ◌+◌, ◌-◌, ◌<◌, ◌&&◌, ltb, List, [], ◌∷◌, ◌++◌, length, get_or, take, sym, refl, ap, ◌∙◌, arith}
+use Rattle.std.proofs.Math.Bool.{and-true, and_assoc}
 use Rattle.std.proofs.Math.Seq.{take-length}
 use Rattle.std.proofs.lemmas.List.{take_more}
-use Rattle.costs.specs.declared.point.Point.{Point}
-use Rattle.costs.specs.Costs.{point_right, last_from, last_latency, right_from, points_right, may_follow}
+use Rattle.records.specs.declared.point.Point.{Point}
+use Rattle.records.specs.Points.{point_right}
+use Rattle.costs.specs.Costs.{last_from, last_latency, right_from, points_right, may_follow}
 
 pub last_from-push : (low : ℕ) (xs : List Point) (x : Point) → last_from low (xs ++ x ∷ []) ≡ x.latency
 last_from-push low [] x = refl
 last_from-push low (y ∷ xs) x = last_from-push y.latency xs x
 
-and_assoc : (a b c : Bool) → (a && b) && c ≡ a && (b && c)
-and_assoc true b c = refl
-and_assoc false b c = refl
-
-and_true : (a : Bool) → a && true ≡ a
-and_true true = refl
-and_true false = refl
-
 -- points stay right with one more exactly when it may follow them
 pub right_from-push : (low : ℕ) (xs : List Point) (x : Point) → right_from low (xs ++ x ∷ []) ≡ right_from low xs && (point_right x && ltb (last_from low xs) x.latency)
-right_from-push low [] x = and_true (point_right x && ltb low x.latency)
+right_from-push low [] x = and-true (point_right x && ltb low x.latency)
 right_from-push low (y ∷ xs) x =
     ap (λ b. (point_right y && ltb low y.latency) && b) (right_from-push y.latency xs x)
     ∙ sym (and_assoc (point_right y && ltb low y.latency) (right_from y.latency xs) (point_right x && ltb (last_from y.latency xs) x.latency))

@@ -1,10 +1,7 @@
 -- The points of a cost table, in the order of their latencies.
-use Rattle.std.specs.Prelude.{◌≡◌, ℕ, ◌≤◌, Bool, true, ◌&&◌, List, [], ◌∷◌, length, take, nat_le, nat_lt}
-use Rattle.costs.specs.declared.point.Point.{Point}
-
--- the limits of a point
-abbrev pub point_right : Point → Bool
-point_right x = (nat_le 1 x.latency && nat_le x.latency 2000000) && (nat_le 1000 x.cost && nat_le x.cost 1000000)
+use Rattle.std.specs.Prelude.{◌≡◌, ℕ, ◌≤◌, Bool, true, ◌&&◌, List, [], ◌∷◌, length, take, nat_lt}
+use Rattle.records.specs.declared.point.Point.{Point}
+use Rattle.records.specs.Points.{point_right}
 
 -- the latency of the last point; of no points, the one given
 abbrev pub last_from : ℕ → List Point → ℕ

@@ -1,11 +1,12 @@
 -- The points that a value holds.
 use Rattle.std.specs.Prelude.{List, take, length, cond, Option, Some, None, nat_lt}
-use Rattle.costs.specs.declared.point.Point.{Point}
+use Rattle.records.specs.declared.point.Point.{Point}
 use Rattle.costs.specs.declared.point.PointFault.{PointFault}
 use Rattle.costs.specs.declared.point.PointFault.TheVariants.{Full, OutOfLimits, NotRising}
 use Rattle.costs.specs.declared.points.Points.{Points}
 use Rattle.costs.specs.declared.table.CostTable.{CostTable}
-use Rattle.costs.specs.Costs.{last_latency, point_right}
+use Rattle.records.specs.Points.{point_right}
+use Rattle.costs.specs.Costs.{last_latency}
 
 abbrev pub points_of : Points → List Point
 points_of p = take p.count p.items

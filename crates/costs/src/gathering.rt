@@ -1,7 +1,7 @@
 // Gathering points.
 ghost use Rattle.std.specs.Prelude.{◌≡◌, [], ◌∷◌, ◌++◌, length, if◌then◌else◌, is_ok};
 ghost use Rattle.std.specs.Result.{result_err};
-ghost use Rattle.costs.specs.Costs.{last_latency, may_follow, point_right};
+ghost use Rattle.costs.specs.Costs.{last_latency, may_follow};
 ghost use Rattle.costs.specs.Tables.{points_of, push_fault};
 
 use crate::point::{Point, PointFault};
@@ -11,15 +11,6 @@ const NO_POINT: Point = Point {
     latency: 0,
     cost: 0,
 };
-
-impl Point {
-    // Whether latency and cost are within their limits.
-    pub fn is_right(self) -> bool
-        ensures { result ≡ point_right self }
-    {
-        (1..=2_000_000).contains(&self.latency) && (1_000..=1_000_000).contains(&self.cost)
-    }
-}
 
 impl Points {
     // No points yet.

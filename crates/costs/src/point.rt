@@ -1,9 +1,5 @@
-// A point of a cost table.
-#[derive(Clone, Copy, PartialEq, Eq, Debug)]
-pub struct Point {
-    pub latency: u32,
-    pub cost: u32,
-}
+// A point of a cost table, and its faults.
+pub use records::Point;
 
 // Why a point is not taken.
 #[derive(Clone, Copy, PartialEq, Eq, Debug)]

@@ -1,9 +1,9 @@
 -- What a plan describes.
 use Rattle.std.specs.Prelude.{ℕ, List, [], slice_index_or}
-use Rattle.costs.specs.declared.point.Point.{Point}
-use Rattle.description.specs.declared.parts.Resource.{Resource}
-use Rattle.description.specs.declared.parts.Activity.{Activity}
-use Rattle.description.specs.declared.parts.Edge.{Edge}
+use Rattle.records.specs.declared.point.Point.{Point}
+use Rattle.records.specs.declared.resource.Resource.{Resource}
+use Rattle.records.specs.declared.activity.Activity.{Activity}
+use Rattle.records.specs.declared.edge.Edge.{Edge}
 
 pub record Application : Type 0 where
   pub period : ℕ

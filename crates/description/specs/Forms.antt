@@ -4,11 +4,6 @@ use Rattle.std.specs.Result.{result_map_both}
 use Rattle.fields.specs.declared.record.FieldFault.{FieldFault}
 use Rattle.fields.specs.declared.record.FieldFault.TheVariants.{Short, Tag, Length}
 use Rattle.fields.specs.Fields.{reading}
-use Rattle.records.specs.declared.resource.ResourceField.{ResourceField}
-use Rattle.records.specs.declared.application.ApplicationField.{ApplicationField}
-use Rattle.records.specs.declared.point.PointField.{PointField}
-use Rattle.records.specs.declared.activity.ActivityField.{ActivityField}
-use Rattle.records.specs.declared.edge.EdgeField.{EdgeField}
 use Rattle.records.specs.Resources.{resource_in}
 use Rattle.records.specs.Applications.{application_in}
 use Rattle.records.specs.Points.{point_in}
@@ -30,34 +25,18 @@ next_kind Point tag = cond (tag == 80) (Some Point) (cond (tag == 65) (Some Appl
 next_kind Activity tag = cond (tag == 84) (Some Activity) (cond (tag == 69) (Some Edge) None)
 next_kind Edge tag = cond (tag == 69) (Some Edge) None
 
--- what a body says
-abbrev pub resource_said : ResourceField → PlanField
-resource_said x = a_resource (record { kind = x.kind; numbers = x.numbers })
-
-abbrev pub timing_said : ApplicationField → PlanField
-timing_said x = a_timing (record { period = x.period; bound = x.bound })
-
-abbrev pub point_said : PointField → PlanField
-point_said x = a_point (record { latency = x.latency; cost = x.cost })
-
-abbrev pub activity_said : ActivityField → PlanField
-activity_said x =
-    an_activity (record { application = x.application; resource = x.resource; sender = x.sender; turns = x.turns; demand = x.demand; jitter = x.jitter })
-
-abbrev pub edge_said : EdgeField → PlanField
-edge_said x = an_edge (record { from = x.from; to = x.to })
-
+-- what a reader answers, of a field that says something of a plan
 abbrev pub said : {X : Type 0} → (X → PlanField) → Result X FieldFault → Result PlanField FieldFault
 said f r = result_map_both f (λ e. e) r
 
 -- the field of a kind that begins at `at`; no header comes a second time
 abbrev pub field_at : FieldKind → List ℕ → ℕ → Result PlanField FieldFault
 field_at Header input at = Err Tag
-field_at Resource input at = said resource_said (reading 82 18 resource_in input at)
-field_at Application input at = said timing_said (reading 65 8 application_in input at)
-field_at Point input at = said point_said (reading 80 8 point_in input at)
-field_at Activity input at = said activity_said (reading 84 12 activity_in input at)
-field_at Edge input at = said edge_said (reading 69 4 edge_in input at)
+field_at Resource input at = said a_resource (reading 82 18 resource_in input at)
+field_at Application input at = said a_timing (reading 65 8 application_in input at)
+field_at Point input at = said a_point (reading 80 8 point_in input at)
+field_at Activity input at = said an_activity (reading 84 12 activity_in input at)
+field_at Edge input at = said an_edge (reading 69 4 edge_in input at)
 
 -- how many bytes a field has: its header and its body
 abbrev pub field_size : FieldKind → ℕ

@@ -1,11 +1,11 @@
--- Every limit of a plan, each stated once. Limits of a point stand with the cost tables.
+-- Every limit of a plan, each stated once. Limits of a point stand with the point.
 use Rattle.std.specs.Prelude.{◌≡◌, ℕ, zero, suc, ◌+◌, ◌*◌, ◌^◌, ◌<◌, ◌≤◌, Bool, true, false, ◌&&◌, ◌||◌, List, [], ◌∷◌, length, is_some, ◌==◌, nat_le, nat_lt}
 use Rattle.std.specs.List.{AllByRecursion}
 use Rattle.kinds.specs.Relations.{Relations}
 use Rattle.costs.specs.Costs.{last_latency, points_right}
-use Rattle.description.specs.declared.parts.Resource.{Resource}
-use Rattle.description.specs.declared.parts.Activity.{Activity}
-use Rattle.description.specs.declared.parts.Edge.{Edge}
+use Rattle.records.specs.declared.resource.Resource.{Resource}
+use Rattle.records.specs.declared.activity.Activity.{Activity}
+use Rattle.records.specs.declared.edge.Edge.{Edge}
 use Rattle.description.specs.Descriptions.{Application, Description, resource_at, application_at, activity_at}
 
 abbrev pub among : ℕ → ℕ → ℕ → Bool

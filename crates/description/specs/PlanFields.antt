@@ -1,18 +1,13 @@
 -- What the fields of a plan file say, after its header.
-use Rattle.std.specs.Prelude.{ℕ}
-use Rattle.costs.specs.declared.point.Point.{Point}
-use Rattle.description.specs.declared.parts.Resource.{Resource}
-use Rattle.description.specs.declared.parts.Activity.{Activity}
-use Rattle.description.specs.declared.parts.Edge.{Edge}
-
--- period and latency bound of an application
-pub record Timing : Type 0 where
-  pub period : ℕ
-  pub bound : ℕ
+use Rattle.records.specs.declared.application.ApplicationField.{ApplicationField}
+use Rattle.records.specs.declared.point.Point.{Point}
+use Rattle.records.specs.declared.resource.Resource.{Resource}
+use Rattle.records.specs.declared.activity.Activity.{Activity}
+use Rattle.records.specs.declared.edge.Edge.{Edge}
 
 pub data PlanField : Type 0 where
   a_resource : Resource → PlanField
-  a_timing : Timing → PlanField
+  a_timing : ApplicationField → PlanField
   a_point : Point → PlanField
   an_activity : Activity → PlanField
   an_edge : Edge → PlanField

@@ -4,7 +4,7 @@ use Rattle.std.specs.Prelude.{ℕ, zero, suc, ◌+◌, Bool, true, false, cond, 
 use Rattle.fields.specs.declared.record.FieldFault.{FieldFault}
 use Rattle.fields.specs.Fields.{reading}
 use Rattle.records.specs.Headers.{header_in}
-use Rattle.costs.specs.declared.point.Point.{Point as PointPart}
+use Rattle.records.specs.declared.point.Point.{Point as PointPart}
 use Rattle.costs.specs.Costs.{may_follow}
 use Rattle.kinds.specs.Relations.{Relations}
 use Rattle.model.specs.declared.refusal.Refusal.{Refusal}
@@ -12,7 +12,7 @@ use Rattle.model.specs.declared.refusal.Refusal.TheVariants.{EndsEarly, WrongTag
 use Rattle.description.specs.declared.field_kind.FieldKind.{FieldKind}
 use Rattle.description.specs.declared.field_kind.FieldKind.TheVariants.{Header, Resource, Application, Point, Activity, Edge}
 use Rattle.description.specs.PlanFields.{PlanField, a_resource, a_timing, a_point, an_activity, an_edge}
-use Rattle.description.specs.Descriptions.{Application as ApplicationPart, Description}
+use Rattle.description.specs.Descriptions.{Application as ApplicationPart, Description, nothing}
 use Rattle.description.specs.Limits.{most_resources, most_applications, most_points, most_activities, most_edges, most_cells, timing_right, table_right, resource_right, activity_right, demand_taken, edge_right, cell_count, all_active}
 use Rattle.description.specs.Forms.{next_kind, field_at, field_size, fault_refusal}
 
@@ -24,14 +24,14 @@ pub record Reading : Type 0 where
   pub current : Option ApplicationPart
 
 abbrev pub begun : ℕ → Reading
-begun label = record { last = Header; so_far = record { label = label; resources = []; applications = []; activities = []; edges = [] }; current = None }
+begun label = record { last = Header; so_far = record nothing { label = label }; current = None }
 
 abbrev pub current_points : Option ApplicationPart → List PointPart
 current_points None = []
 current_points (Some a) = a.points
 
 abbrev pub with_applications : Description → List ApplicationPart → Description
-with_applications d more = record { label = d.label; resources = d.resources; applications = more; activities = d.activities; edges = d.edges }
+with_applications d more = record d { applications = more }
 
 -- the current application is complete, if its cost table is right
 abbrev pub completed : FieldKind → Description → Option ApplicationPart → Option Reading
@@ -88,22 +88,15 @@ judged r s (an_edge x) at = unless (edge_right s.so_far x) (WrongEdge at)
 
 abbrev pub with_point : Option ApplicationPart → PointPart → Option ApplicationPart
 with_point None x = None
-with_point (Some a) x = Some (record { period = a.period; bound = a.bound; points = a.points ++ x ∷ [] })
+with_point (Some a) x = Some (record a { points = a.points ++ x ∷ [] })
 
 -- one field more
 abbrev pub grown : Reading → PlanField → Reading
-grown s (a_resource x) =
-    let d = s.so_far in
-    record { last = Resource; so_far = record { label = d.label; resources = d.resources ++ x ∷ []; applications = d.applications; activities = d.activities; edges = d.edges }; current = s.current }
-grown s (a_timing x) =
-    record { last = Application; so_far = s.so_far; current = Some (record { period = x.period; bound = x.bound; points = [] }) }
-grown s (a_point x) = record { last = Point; so_far = s.so_far; current = with_point s.current x }
-grown s (an_activity x) =
-    let d = s.so_far in
-    record { last = Activity; so_far = record { label = d.label; resources = d.resources; applications = d.applications; activities = d.activities ++ x ∷ []; edges = d.edges }; current = s.current }
-grown s (an_edge x) =
-    let d = s.so_far in
-    record { last = Edge; so_far = record { label = d.label; resources = d.resources; applications = d.applications; activities = d.activities; edges = d.edges ++ x ∷ [] }; current = s.current }
+grown s (a_resource x) = record s { last = Resource; so_far = record (s.so_far) { resources = s.so_far.resources ++ x ∷ [] } }
+grown s (a_timing x) = record s { last = Application; current = Some (record { period = x.period; bound = x.bound; points = [] }) }
+grown s (a_point x) = record s { last = Point; current = with_point s.current x }
+grown s (an_activity x) = record s { last = Activity; so_far = record (s.so_far) { activities = s.so_far.activities ++ x ∷ [] } }
+grown s (an_edge x) = record s { last = Edge; so_far = record (s.so_far) { edges = s.so_far.edges ++ x ∷ [] } }
 
 -- how far the reader has come, and where the next field begins
 pub record Reached : Type 0 where

@@ -12,12 +12,11 @@ use Rattle.description.specs.PlanFields.{PlanField, a_resource, a_timing, a_poin
 use Rattle.description.specs.Descriptions.{Application, Description}
 
 abbrev pub field_bytes : PlanField → List ℕ
-field_bytes (a_resource x) = field_of 82 18 (resource_bytes (record { kind = x.kind; numbers = x.numbers }))
-field_bytes (a_timing x) = field_of 65 8 (application_bytes (record { period = x.period; bound = x.bound }))
-field_bytes (a_point x) = field_of 80 8 (point_bytes (record { latency = x.latency; cost = x.cost }))
-field_bytes (an_activity x) =
-    field_of 84 12 (activity_bytes (record { application = x.application; resource = x.resource; sender = x.sender; turns = x.turns; demand = x.demand; jitter = x.jitter }))
-field_bytes (an_edge x) = field_of 69 4 (edge_bytes (record { from = x.from; to = x.to }))
+field_bytes (a_resource x) = field_of 82 18 (resource_bytes x)
+field_bytes (a_timing x) = field_of 65 8 (application_bytes x)
+field_bytes (a_point x) = field_of 80 8 (point_bytes x)
+field_bytes (an_activity x) = field_of 84 12 (activity_bytes x)
+field_bytes (an_edge x) = field_of 69 4 (edge_bytes x)
 
 -- an application is directly followed by its points
 abbrev pub application_fields : Application → List PlanField

@@ -1,5 +1,5 @@
 // The kinds of field that a plan file is made of.
-#[derive(Clone, Copy)]
+#[derive(Clone, Copy, PartialEq, Eq, Debug)]
 pub enum FieldKind {
     Header,
     Resource,

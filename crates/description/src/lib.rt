@@ -3,9 +3,8 @@
 
 mod field_kind;
 mod order;
-mod parts;
 mod refusing;
 
 pub use field_kind::FieldKind;
-pub use parts::{Activity, Edge, Resource};
+pub use records::{Activity, Edge, Resource};
 pub use refusing::refuse_fault;

@@ -1,5 +1,5 @@
 -- Numbers of one, two and four bytes as pieces of a list of bytes, and back.
-use Rattle.std.proofs.Common.{◌≡◌, ℕ, ◌+◌, ◌*◌, ◌/◌, ◌%◌, ◌^◌, ◌<◌, List, [], ◌∷◌, ◌++◌, length, get_or, drop, sym, ap, ◌∙◌, append-nil, add-one, arith, drop-cons}
+use Rattle.std.proofs.Common.{◌≡◌, ℕ, ◌+◌, ◌*◌, ◌/◌, ◌%◌, ◌^◌, ◌<◌, List, [], ◌∷◌, ◌++◌, length, get_or, drop, refl, sym, ap, ◌∙◌, add-one, arith, drop-cons}
 use Rattle.std.specs.List.{AllByRecursion}
 use Rattle.std.proofs.ByRecursion.{All-get_or}
 use Rattle.std.proofs.lemmas.List.{drop_all}
@@ -34,34 +34,20 @@ module _ (xs : List ℕ) (bytes : AllByRecursion (λ b. b < 256) xs) where
 
   pub two_piece : (i : ℕ) → i + 1 < length xs → two_of (two_at xs i) ++ drop (i + 2) xs ≡ drop i xs
   two_piece i lt =
-      ap (λ l. l ++ drop (i + 2) xs) (two_again (get_or xs i 0) (get_or xs (i + 1) 0) (byte i (omega arith)) (byte (i + 1) lt))
-      ∙ ap (λ j. get_or xs i 0 ∷ get_or xs (i + 1) 0 ∷ drop j xs) (omega arith)
-      ∙ ap (λ l. get_or xs i 0 ∷ l) (one_piece xs (i + 1) lt)
-      ∙ one_piece xs i (omega arith)
+      let e2 : i + 2 ≡ i + 1 + 1 = omega arith in
+      cc (two_again (get_or xs i 0) (get_or xs (i + 1) 0) (byte i (omega arith)) (byte (i + 1) lt), one_piece xs i (omega arith), one_piece xs (i + 1) lt)
 
   pub four_piece : (i : ℕ) → i + 3 < length xs → four_of (four_at xs i) ++ drop (i + 4) xs ≡ drop i xs
   four_piece i lt =
-      let a : ℕ = get_or xs i 0 in
-      let b : ℕ = get_or xs (i + 1) 0 in
-      let c : ℕ = get_or xs (i + 2) 0 in
-      let d : ℕ = get_or xs (i + 3) 0 in
-      let e4 : i + 4 ≡ i + 3 + 1 = omega arith in
-      let e3 : i + 3 ≡ i + 2 + 1 = omega arith in
       let e2 : i + 2 ≡ i + 1 + 1 = omega arith in
-      let last : d ∷ drop (i + 4) xs ≡ drop (i + 3) xs = ap (λ j. d ∷ drop j xs) e4 ∙ one_piece xs (i + 3) lt in
-      let third : c ∷ drop (i + 3) xs ≡ drop (i + 2) xs = ap (λ j. c ∷ drop j xs) e3 ∙ one_piece xs (i + 2) (omega arith) in
-      let second : b ∷ drop (i + 2) xs ≡ drop (i + 1) xs = ap (λ j. b ∷ drop j xs) e2 ∙ one_piece xs (i + 1) (omega arith) in
-      ap (λ l. l ++ drop (i + 4) xs) (four_again a b c d (byte i (omega arith)) (byte (i + 1) (omega arith)) (byte (i + 2) (omega arith)) (byte (i + 3) lt))
-      ∙ ap (λ l. a ∷ b ∷ c ∷ l) last
-      ∙ ap (λ l. a ∷ b ∷ l) third
-      ∙ ap (λ l. a ∷ l) second
-      ∙ one_piece xs i (omega arith)
+      let e3 : i + 3 ≡ i + 2 + 1 = omega arith in
+      let e4 : i + 4 ≡ i + 3 + 1 = omega arith in
+      let bytes = four_again (get_or xs i 0) (get_or xs (i + 1) 0) (get_or xs (i + 2) 0) (get_or xs (i + 3) 0) (byte i (omega arith)) (byte (i + 1) (omega arith)) (byte (i + 2) (omega arith)) (byte (i + 3) lt) in
+      cc (bytes, one_piece xs i (omega arith), one_piece xs (i + 1) (omega arith), one_piece xs (i + 2) (omega arith), one_piece xs (i + 3) lt)
 
   -- the last number of a body
   pub two_last : (i : ℕ) → i + 2 ≡ length xs → two_of (two_at xs i) ≡ drop i xs
-  two_last i e =
-      sym (append-nil (two_of (two_at xs i))) ∙ ap (λ l. two_of (two_at xs i) ++ l) (sym (drop_all (i + 2) xs (omega arith))) ∙ two_piece i (omega arith)
+  two_last i e = rw (← two_piece i (omega arith), drop_all (i + 2) xs (omega arith)) refl
 
   pub four_last : (i : ℕ) → i + 4 ≡ length xs → four_of (four_at xs i) ≡ drop i xs
-  four_last i e =
-      sym (append-nil (four_of (four_at xs i))) ∙ ap (λ l. four_of (four_at xs i) ++ l) (sym (drop_all (i + 4) xs (omega arith))) ∙ four_piece i (omega arith)
+  four_last i e = rw (← four_piece i (omega arith), drop_all (i + 4) xs (omega arith)) refl

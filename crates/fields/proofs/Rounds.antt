@@ -1,21 +1,22 @@
 -- What is written is read back.
-use Rattle.std.proofs.Common.{◌≡◌, ℕ, ◌+◌, ◌-◌, ◌*◌, ◌/◌, ◌%◌, ◌<◌, ◌≤◌, List, ◌++◌, length, get_or, take, drop, Ok, sym, refl, ap, ◌∙◌, subst, append_assoc, arith, length-append, length-take}
+use Rattle.std.proofs.Common.{◌≡◌, ℕ, ◌+◌, ◌-◌, ◌*◌, ◌/◌, ◌%◌, ◌<◌, ◌≤◌, List, [], ◌++◌, length, get_or, take, drop, Ok, sym, refl, ap, ◌∙◌, subst, append-nil, arith, length-append, length-take}
 use borrow.Rule.Slice.PartMut.{put_mid}
-use Rattle.std.proofs.lemmas.List.{get_or-append-add, take_at, drop_at, drop-drop}
-use Rattle.std.proofs.lemmas.Slice.{take-put_mid, drop-put_mid}
+use Rattle.std.proofs.lemmas.List.{get_or-append-add, take_at, drop_at, drop_all, drop-drop}
 use Rattle.std.proofs.lemmas.Bool.{le-ltb, eq-eqb, cond-true, cond-false}
 use Rattle.fields.specs.Bytes.{two_at}
 use Rattle.fields.specs.Fields.{reading, field_of, placed}
 
--- two neighbouring parts, one written after the other
-pub put_put : (out head body : List ℕ) (at mid h k : ℕ) → mid ≡ at + h → length head ≡ h → length body ≡ k → mid + k ≤ length out
-    → put_mid mid k (put_mid at h out head) body ≡ placed out at (head ++ body)
-put_put out head body at mid h k m p q le =
-    let w = put_mid at h out head in
-    let front : take mid w ≡ take at out ++ head = take-put_mid at h out head mid (omega arith) (omega arith) in
-    let rest : drop k (drop mid w) ≡ drop (at + length (head ++ body)) out =
-    ap (drop k) (drop-put_mid at h out head mid (omega arith) (omega arith) p) ∙ drop-drop k mid out ∙ ap (λ n. drop n out) (omega (arith, length-append head body)) in
-    (λ i. front i ++ (body ++ rest i)) ∙ append_assoc (take at out) head (body ++ drop (at + length (head ++ body)) out) ∙ ap (λ l. take at out ++ l) (sym (append_assoc head body (drop (at + length (head ++ body)) out)))
+-- a field written in its own part of the output, the body after the head
+pub put_field : (out head rest body : List ℕ) (at n k : ℕ) → length head ≡ n → length (head ++ body) ≡ k
+    → put_mid at k out (put_mid n (length (head ++ rest) - n) (head ++ rest) body) ≡ placed out at (head ++ body)
+put_field out head rest body at n k a e =
+    let m : ℕ = length (head ++ rest) - n in
+    let b : length rest ≤ m = omega (arith, length-append head rest) in
+    let front : take n (head ++ rest) ≡ head = take_at head rest n a in
+    let back : drop m (drop n (head ++ rest)) ≡ [] = ap (drop m) (drop_at head rest n a) ∙ drop_all m rest b in
+    let inner : put_mid n m (head ++ rest) body ≡ head ++ body = (λ i. front i ++ (body ++ back i)) ∙ ap (λ l. head ++ l) (append-nil body) in
+    let outer : drop k (drop at out) ≡ drop (at + length (head ++ body)) out = drop-drop k at out ∙ ap (λ j. drop (at + j) out) (sym e) in
+    λ i. take at out ++ (inner i ++ outer i)
 
 pub round_at : {R : Type 0} (tag len : ℕ) (parse : List ℕ → R) (p bytes rest : List ℕ)
     → length bytes ≡ len → len < 65536

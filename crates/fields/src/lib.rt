@@ -6,5 +6,5 @@ mod record;
 mod writing;
 
 pub use reading::{read_field, tag_at};
-pub use record::{FieldFault, Record};
+pub use record::{FieldFault, HEADER_LEN, Record};
 pub use writing::write_field;

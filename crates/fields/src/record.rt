@@ -12,16 +12,18 @@ pub enum FieldFault {
     Length,
 }
 
-// Each kind of field has a fixed tag and a fixed length. No clause can name a constant of a type parameter, so ghost members
-// stand for both, and two functions tie them to the constants.
+// How many bytes of a field stand before its body: the tag, and the length in two.
+pub const HEADER_LEN: usize = 3;
+
+// Each kind of field has a fixed tag and a fixed length. The ghost members of the same names are what clauses call them by.
 pub trait Record: Sized {
     const TAG: u8;
 
     const LEN: u16;
 
-    ghost tag: { ℕ };
+    ghost TAG: { ℕ };
 
-    ghost len: { ℕ };
+    ghost LEN: { ℕ };
 
     // The record that a body holds, and the body of a record.
     ghost parse: { List ℕ → Self };
@@ -31,26 +33,20 @@ pub trait Record: Sized {
     // Its numbers fit their types: this holds of every record that code can have.
     ghost fits: { Self → Type 0 };
 
-    fn tag_byte() -> u8
-        ensures { result ≡ tag };
-
-    fn body_len() -> u16
-        ensures { result ≡ len };
-
     fn read(body: &[u8]) -> Self
-        requires { length body.now ≡ len }
+        requires { length body.now ≡ LEN }
         ensures { result ≡ parse body.now };
 
     fn write(&self, body: &mut [u8])
-        requires { length body.old ≡ len }
+        requires { length body.old ≡ LEN }
         ensures after { body.new ≡ bytes self.now }
         ensures fits { fits self.now };
 
-    ghost long: { (x : Self) → length (bytes x) ≡ len };
+    ghost long: { (x : Self) → length (bytes x) ≡ LEN };
 
     // What is written is read back as it was.
     ghost back: { (x : Self) → fits x → parse (bytes x) ≡ x };
 
     // What is read, written again, gives the same bytes.
-    ghost again: { (xs : List ℕ) → length xs ≡ len → AllByRecursion (λ b. b < 256) xs → bytes (parse xs) ≡ xs };
+    ghost again: { (xs : List ℕ) → length xs ≡ LEN → AllByRecursion (λ b. b < 256) xs → bytes (parse xs) ≡ xs };
 }

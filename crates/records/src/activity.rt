@@ -1,13 +1,15 @@
-// An activity: what it belongs to, where it runs, and how.
+// An activity: what it belongs to, where it runs, who sends it, in how many turns, how much it asks for, and how far its offsets
+// may differ.
 ghost use Rattle.std.specs.Prelude.{refl};
 ghost use Rattle.records.specs.Activities.{activity_bytes, ActivityFits, activity_in};
 ghost use Rattle.records.specs.Again.{activity_again};
 ghost use Rattle.records.specs.Returned.{activity_back};
 
+use crate::bytes::bytes_at;
 use fields::Record;
 
-#[derive(Clone, Copy, PartialEq)]
-pub struct ActivityField {
+#[derive(Clone, Copy, PartialEq, Eq, Debug)]
+pub struct Activity {
     pub application: u8,
     pub resource: u8,
     pub sender: u8,
@@ -16,14 +18,14 @@ pub struct ActivityField {
     pub jitter: u32,
 }
 
-impl Record for ActivityField {
+impl Record for Activity {
     const TAG: u8 = b'T';
 
     const LEN: u16 = 12;
 
-    ghost tag = { 84 };
+    ghost TAG = { 84 };
 
-    ghost len = { 12 };
+    ghost LEN = { 12 };
 
     ghost parse = { activity_in };
 
@@ -37,27 +39,19 @@ impl Record for ActivityField {
 
     ghost again = { activity_again };
 
-    fn tag_byte() -> u8 {
-        Self::TAG
-    }
-
-    fn body_len() -> u16 {
-        Self::LEN
-    }
-
-    fn read(body: &[u8]) -> ActivityField {
-        ActivityField {
+    fn read(body: &[u8]) -> Activity {
+        Activity {
             application: body[0],
             resource: body[1],
             sender: body[2],
             turns: body[3],
-            demand: u32::from_be_bytes([body[4], body[5], body[6], body[7]]),
-            jitter: u32::from_be_bytes([body[8], body[9], body[10], body[11]]),
+            demand: u32::from_be_bytes(bytes_at(body, 4)),
+            jitter: u32::from_be_bytes(bytes_at(body, 8)),
         }
     }
 
     fn write(&self, body: &mut [u8]) {
-        let ActivityField {
+        let Activity {
             application,
             resource,
             sender,
@@ -65,21 +59,8 @@ impl Record for ActivityField {
             demand,
             jitter,
         } = *self;
-        let [d0, d1, d2, d3] = demand.to_be_bytes();
-        let [j0, j1, j2, j3] = jitter.to_be_bytes();
-        body.copy_from_slice(&[
-            application,
-            resource,
-            sender,
-            turns,
-            d0,
-            d1,
-            d2,
-            d3,
-            j0,
-            j1,
-            j2,
-            j3,
-        ]);
+        body[..4].copy_from_slice(&[application, resource, sender, turns]);
+        body[4..8].copy_from_slice(&demand.to_be_bytes());
+        body[8..].copy_from_slice(&jitter.to_be_bytes());
     }
 }

@@ -4,9 +4,10 @@ ghost use Rattle.records.specs.Applications.{application_bytes, ApplicationFits,
 ghost use Rattle.records.specs.Again.{application_again};
 ghost use Rattle.records.specs.Returned.{application_back};
 
+use crate::bytes::bytes_at;
 use fields::Record;
 
-#[derive(Clone, Copy, PartialEq)]
+#[derive(Clone, Copy, PartialEq, Eq, Debug)]
 pub struct ApplicationField {
     pub period: u32,
     pub bound: u32,
@@ -17,9 +18,9 @@ impl Record for ApplicationField {
 
     const LEN: u16 = 8;
 
-    ghost tag = { 65 };
+    ghost TAG = { 65 };
 
-    ghost len = { 8 };
+    ghost LEN = { 8 };
 
     ghost parse = { application_in };
 
@@ -33,25 +34,16 @@ impl Record for ApplicationField {
 
     ghost again = { application_again };
 
-    fn tag_byte() -> u8 {
-        Self::TAG
-    }
-
-    fn body_len() -> u16 {
-        Self::LEN
-    }
-
     fn read(body: &[u8]) -> ApplicationField {
         ApplicationField {
-            period: u32::from_be_bytes([body[0], body[1], body[2], body[3]]),
-            bound: u32::from_be_bytes([body[4], body[5], body[6], body[7]]),
+            period: u32::from_be_bytes(bytes_at(body, 0)),
+            bound: u32::from_be_bytes(bytes_at(body, 4)),
         }
     }
 
     fn write(&self, body: &mut [u8]) {
         let ApplicationField { period, bound } = *self;
-        let [p0, p1, p2, p3] = period.to_be_bytes();
-        let [b0, b1, b2, b3] = bound.to_be_bytes();
-        body.copy_from_slice(&[p0, p1, p2, p3, b0, b1, b2, b3]);
+        body[..4].copy_from_slice(&period.to_be_bytes());
+        body[4..].copy_from_slice(&bound.to_be_bytes());
     }
 }

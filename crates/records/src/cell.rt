@@ -4,9 +4,10 @@ ghost use Rattle.records.specs.Cells.{cell_bytes, CellFits, cell_in};
 ghost use Rattle.records.specs.Again.{cell_again};
 ghost use Rattle.records.specs.Returned.{cell_back};
 
+use crate::bytes::bytes_at;
 use fields::Record;
 
-#[derive(Clone, Copy, PartialEq)]
+#[derive(Clone, Copy, PartialEq, Eq, Debug)]
 pub struct CellField {
     pub activity: u16,
     pub turn: u8,
@@ -18,9 +19,9 @@ impl Record for CellField {
 
     const LEN: u16 = 7;
 
-    ghost tag = { 67 };
+    ghost TAG = { 67 };
 
-    ghost len = { 7 };
+    ghost LEN = { 7 };
 
     ghost parse = { cell_in };
 
@@ -34,19 +35,11 @@ impl Record for CellField {
 
     ghost again = { cell_again };
 
-    fn tag_byte() -> u8 {
-        Self::TAG
-    }
-
-    fn body_len() -> u16 {
-        Self::LEN
-    }
-
     fn read(body: &[u8]) -> CellField {
         CellField {
-            activity: u16::from_be_bytes([body[0], body[1]]),
+            activity: u16::from_be_bytes(bytes_at(body, 0)),
             turn: body[2],
-            offset: u32::from_be_bytes([body[3], body[4], body[5], body[6]]),
+            offset: u32::from_be_bytes(bytes_at(body, 3)),
         }
     }
 
@@ -56,8 +49,8 @@ impl Record for CellField {
             turn,
             offset,
         } = *self;
-        let [a0, a1] = activity.to_be_bytes();
-        let [o0, o1, o2, o3] = offset.to_be_bytes();
-        body.copy_from_slice(&[a0, a1, turn, o0, o1, o2, o3]);
+        body[..2].copy_from_slice(&activity.to_be_bytes());
+        body[2..3].copy_from_slice(&[turn]);
+        body[3..].copy_from_slice(&offset.to_be_bytes());
     }
 }

@@ -1,25 +1,26 @@
-// An edge from one activity to another.
+// An edge: each occurrence of the first activity ends before that of the second starts.
 ghost use Rattle.std.specs.Prelude.{refl};
 ghost use Rattle.records.specs.Edges.{edge_bytes, EdgeFits, edge_in};
 ghost use Rattle.records.specs.Again.{edge_again};
 ghost use Rattle.records.specs.Returned.{edge_back};
 
+use crate::bytes::bytes_at;
 use fields::Record;
 
-#[derive(Clone, Copy, PartialEq)]
-pub struct EdgeField {
+#[derive(Clone, Copy, PartialEq, Eq, Debug)]
+pub struct Edge {
     pub from: u16,
     pub to: u16,
 }
 
-impl Record for EdgeField {
+impl Record for Edge {
     const TAG: u8 = b'E';
 
     const LEN: u16 = 4;
 
-    ghost tag = { 69 };
+    ghost TAG = { 69 };
 
-    ghost len = { 4 };
+    ghost LEN = { 4 };
 
     ghost parse = { edge_in };
 
@@ -33,25 +34,16 @@ impl Record for EdgeField {
 
     ghost again = { edge_again };
 
-    fn tag_byte() -> u8 {
-        Self::TAG
-    }
-
-    fn body_len() -> u16 {
-        Self::LEN
-    }
-
-    fn read(body: &[u8]) -> EdgeField {
-        EdgeField {
-            from: u16::from_be_bytes([body[0], body[1]]),
-            to: u16::from_be_bytes([body[2], body[3]]),
+    fn read(body: &[u8]) -> Edge {
+        Edge {
+            from: u16::from_be_bytes(bytes_at(body, 0)),
+            to: u16::from_be_bytes(bytes_at(body, 2)),
         }
     }
 
     fn write(&self, body: &mut [u8]) {
-        let EdgeField { from, to } = *self;
-        let [f0, f1] = from.to_be_bytes();
-        let [t0, t1] = to.to_be_bytes();
-        body.copy_from_slice(&[f0, f1, t0, t1]);
+        let Edge { from, to } = *self;
+        body[..2].copy_from_slice(&from.to_be_bytes());
+        body[2..].copy_from_slice(&to.to_be_bytes());
     }
 }

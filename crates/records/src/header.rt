@@ -4,9 +4,10 @@ ghost use Rattle.records.specs.Headers.{header_bytes, HeaderFits, header_in};
 ghost use Rattle.records.specs.Again.{header_again};
 ghost use Rattle.records.specs.Returned.{header_back};
 
+use crate::bytes::bytes_at;
 use fields::Record;
 
-#[derive(Clone, Copy, PartialEq)]
+#[derive(Clone, Copy, PartialEq, Eq, Debug)]
 pub struct Header {
     pub version: u16,
     pub label: u32,
@@ -17,9 +18,9 @@ impl Record for Header {
 
     const LEN: u16 = 6;
 
-    ghost tag = { 72 };
+    ghost TAG = { 72 };
 
-    ghost len = { 6 };
+    ghost LEN = { 6 };
 
     ghost parse = { header_in };
 
@@ -33,25 +34,16 @@ impl Record for Header {
 
     ghost again = { header_again };
 
-    fn tag_byte() -> u8 {
-        Self::TAG
-    }
-
-    fn body_len() -> u16 {
-        Self::LEN
-    }
-
     fn read(body: &[u8]) -> Header {
         Header {
-            version: u16::from_be_bytes([body[0], body[1]]),
-            label: u32::from_be_bytes([body[2], body[3], body[4], body[5]]),
+            version: u16::from_be_bytes(bytes_at(body, 0)),
+            label: u32::from_be_bytes(bytes_at(body, 2)),
         }
     }
 
     fn write(&self, body: &mut [u8]) {
         let Header { version, label } = *self;
-        let [v0, v1] = version.to_be_bytes();
-        let [l0, l1, l2, l3] = label.to_be_bytes();
-        body.copy_from_slice(&[v0, v1, l0, l1, l2, l3]);
+        body[..2].copy_from_slice(&version.to_be_bytes());
+        body[2..].copy_from_slice(&label.to_be_bytes());
     }
 }

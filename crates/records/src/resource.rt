@@ -1,25 +1,26 @@
 // A resource: a kind number and its four numbers.
 ghost use Rattle.std.specs.Prelude.{refl};
 ghost use Rattle.records.specs.Resources.{resource_bytes, ResourceFits, resource_in};
-ghost use Rattle.records.specs.Returned.{resource_back};
 ghost use Rattle.records.specs.Again.{resource_again};
+ghost use Rattle.records.specs.Returned.{resource_back};
 
+use crate::bytes::bytes_at;
 use fields::Record;
 
-#[derive(Clone, Copy)]
-pub struct ResourceField {
+#[derive(Clone, Copy, PartialEq, Eq, Debug)]
+pub struct Resource {
     pub kind: u16,
     pub numbers: [u32; 4],
 }
 
-impl Record for ResourceField {
+impl Record for Resource {
     const TAG: u8 = b'R';
 
     const LEN: u16 = 18;
 
-    ghost tag = { 82 };
+    ghost TAG = { 82 };
 
-    ghost len = { 18 };
+    ghost LEN = { 18 };
 
     ghost parse = { resource_in };
 
@@ -33,34 +34,25 @@ impl Record for ResourceField {
 
     ghost again = { resource_again };
 
-    fn tag_byte() -> u8 {
-        Self::TAG
-    }
-
-    fn body_len() -> u16 {
-        Self::LEN
-    }
-
-    fn read(body: &[u8]) -> ResourceField {
-        ResourceField {
-            kind: u16::from_be_bytes([body[0], body[1]]),
+    fn read(body: &[u8]) -> Resource {
+        Resource {
+            kind: u16::from_be_bytes(bytes_at(body, 0)),
+            // Kept: one by one. With `array::from_fn` the proof that these are the four numbers did not close.
             numbers: [
-                u32::from_be_bytes([body[2], body[3], body[4], body[5]]),
-                u32::from_be_bytes([body[6], body[7], body[8], body[9]]),
-                u32::from_be_bytes([body[10], body[11], body[12], body[13]]),
-                u32::from_be_bytes([body[14], body[15], body[16], body[17]]),
+                u32::from_be_bytes(bytes_at(body, 2)),
+                u32::from_be_bytes(bytes_at(body, 6)),
+                u32::from_be_bytes(bytes_at(body, 10)),
+                u32::from_be_bytes(bytes_at(body, 14)),
             ],
         }
     }
 
     fn write(&self, body: &mut [u8]) {
-        let [k0, k1] = self.kind.to_be_bytes();
-        let [a0, a1, a2, a3] = self.numbers[0].to_be_bytes();
-        let [b0, b1, b2, b3] = self.numbers[1].to_be_bytes();
-        let [c0, c1, c2, c3] = self.numbers[2].to_be_bytes();
-        let [d0, d1, d2, d3] = self.numbers[3].to_be_bytes();
-        body.copy_from_slice(&[
-            k0, k1, a0, a1, a2, a3, b0, b1, b2, b3, c0, c1, c2, c3, d0, d1, d2, d3,
-        ]);
+        let Resource { kind, numbers } = *self;
+        body[..2].copy_from_slice(&kind.to_be_bytes());
+        body[2..6].copy_from_slice(&numbers[0].to_be_bytes());
+        body[6..10].copy_from_slice(&numbers[1].to_be_bytes());
+        body[10..14].copy_from_slice(&numbers[2].to_be_bytes());
+        body[14..].copy_from_slice(&numbers[3].to_be_bytes());
     }
 }

@@ -3,7 +3,6 @@ use Rattle.std.proofs.Common.{◌≡◌, ℕ, zero, suc, ◌+◌, ◌^◌, ◌<�
 use Rattle.std.specs.List.{flat_map, AllByRecursion}
 use Rattle.std.proofs.lemmas.List.{append-nil, append_assoc, drop_all, flat_map_more}
 use Rattle.std.proofs.lemmas.Bool.{eqb-true, ltb-false}
-use Rattle.std.proofs.lemmas.Bool.Decides.{Decides-below_and}
 use Rattle.fields.specs.declared.record.FieldFault.{FieldFault}
 use Rattle.fields.specs.Fields.{reading, field_of}
 use Rattle.records.specs.declared.header.Header.{Header as HeaderField}
@@ -11,16 +10,16 @@ use Rattle.records.specs.Headers.{header_in, header_bytes}
 use Rattle.kinds.specs.Relations.{Relations}
 use Rattle.model.specs.declared.refusal.Refusal.{Refusal}
 use Rattle.model.specs.declared.refusal.Refusal.TheVariants.{OutOfLimits}
-use Rattle.description.specs.declared.parts.Activity.{Activity as ActivityPart}
 use Rattle.description.specs.declared.field_kind.FieldKind.{FieldKind}
 use Rattle.description.specs.declared.field_kind.FieldKind.TheVariants.{Header, Resource, Application, Point, Activity, Edge}
 use Rattle.description.specs.PlanFields.{PlanField}
 use Rattle.description.specs.Descriptions.{Application as ApplicationPart, Description}
-use Rattle.description.specs.Limits.{Within, has_activity, all_active}
+use Rattle.description.specs.Limits.{Within}
 use Rattle.description.specs.Forms.{next_kind, field_at, field_size, fault_refusal}
 use Rattle.description.specs.Reader.{Reading, Reached, active, settled, judged, accepted, judge_field, read_settled, read_next, one_field, ended, begun, reads, opened}
 use Rattle.description.specs.Written.{field_bytes, fields_of, written}
-use Rattle.written.proofs.FieldsRead.{Taken, ok_else, ok_then, ok_same, no_ok, field_taken, header_taken}
+use Rattle.written.proofs.Actives.{all_active-each}
+use Rattle.written.proofs.FieldsRead.{Taken, ok_else, ok_then, field_taken, header_taken}
 use Rattle.written.proofs.Growing.{whole, whole_none, Right, Stage, Grew, grew}
 
 -- what one field that is accepted brings
@@ -33,10 +32,10 @@ module _ (r : Relations) (input : List ℕ) (small : AllByRecursion (λ b. b < 2
   -- inwards through the reader of one field, to the way on which it is accepted
   step_accepted : (k : FieldKind) (t : Reading) (x : PlanField) (o : Option Refusal) (v : Reached) → next_kind s.last (get_or input at 0) ≡ Some k → settled s k ≡ Some t → Taken k input at x
       → judged r t x at ≡ o → accepted t x (at + field_size k) o ≡ Ok v → Stepped r input s at v
-  step_accepted k t x (Some f) v n e there j a = no_ok f v a
+  step_accepted k t x (Some f) v n e there j a = cc
   step_accepted k t x None v n e there j a =
       let same = there.kind_is in
-      subst (Stepped r input s at) (ok_same _ v a) (record {
+      subst (Stepped r input s at) (cc) (record {
         x = x;
         grown_by = grew r s t x at (get_or input at 0) h g (n ∙ ap Some (sym same)) (ap (settled s) same ∙ e) there.fits j;
         bytes_are = there.bytes_are;
@@ -44,25 +43,20 @@ module _ (r : Relations) (input : List ℕ) (small : AllByRecursion (λ b. b < 2
 
   step_judged : (k : FieldKind) (t : Reading) (a : Result PlanField FieldFault) (v : Reached) → next_kind s.last (get_or input at 0) ≡ Some k → settled s k ≡ Some t
       → field_at k input at ≡ a → judge_field r t k at a ≡ Ok v → Stepped r input s at v
-  step_judged k t (Err f) v n e b a = no_ok _ v a
+  step_judged k t (Err f) v n e b a = cc
   step_judged k t (Ok x) v n e b a = step_accepted k t x (judged r t x at) v n e (field_taken input small at k x b) refl a
 
   step_settled : (k : FieldKind) (o : Option Reading) (v : Reached) → next_kind s.last (get_or input at 0) ≡ Some k → settled s k ≡ o
       → read_settled r input k at o ≡ Ok v → Stepped r input s at v
-  step_settled k None v n e a = no_ok _ v a
+  step_settled k None v n e a = cc
   step_settled k (Some t) v n e a = step_judged k t (field_at k input at) v n e refl a
 
   step_next : (o : Option FieldKind) (v : Reached) → next_kind s.last (get_or input at 0) ≡ o → read_next r input s at o ≡ Ok v → Stepped r input s at v
-  step_next None v n a = no_ok _ v a
+  step_next None v n a = cc
   step_next (Some k) v n a = step_settled k (settled s k) v n refl a
 
   stepped : (v : Reached) → one_field r input s at ≡ Ok v → Stepped r input s at v
   stepped v e = step_next (next_kind s.last (get_or input at 0)) v refl (ok_else _ _ _ v e).1
-
--- applications that are all active are active one by one
-each_active : (n : ℕ) (ts : List ActivityPart) → all_active n ts ≡ true → (i : ℕ) → i < n → has_activity i ts ≡ true
-each_active n ts =
-    (Decides-below_and (λ i. has_activity i ts) (λ i. has_activity i ts ≡ true) (λ n. all_active n ts) (λ i. (λ e. e, λ e. e)) refl (λ n. refl) n).0
 
 -- where an input may end, everything is there
 within : (r : Relations) (d : Description) → Right r d None → 1 ≤ length d.resources → 1 ≤ length d.applications → 1 ≤ length d.activities → active d ≡ true → Within r d
@@ -84,7 +78,7 @@ within r d h some_r some_a some_t all = record {
   activities_right = h.activities_right.1;
   demands_taken = h.activities_right.2;
   senders_fit = h.activities_right.3;
-  applications_active = each_active (length d.applications) d.activities all;
+  applications_active = (all_active-each (length d.applications) d.activities).0 all;
   few_cells = h.activities_right.4;
   few_edges = h.edges_right.0;
   edges_right = h.edges_right.1;
@@ -92,17 +86,17 @@ within r d h some_r some_a some_t all = record {
 
 finished : (r : Relations) (last : FieldKind) (d : Description) (c : Option ApplicationPart) (at : ℕ) (e : Description) → Right r d c → Stage last d c
     → ended (record { last = last; so_far = d; current = c }) at ≡ Ok e → (whole d c ≡ e) × Within r e
-finished r Header d c at e h g q = no_ok _ e q
-finished r Resource d c at e h g q = no_ok _ e q
-finished r Application d c at e h g q = no_ok _ e q
-finished r Point d c at e h g q = no_ok _ e q
+finished r Header d c at e h g q = cc
+finished r Resource d c at e h g q = cc
+finished r Application d c at e h g q = cc
+finished r Point d c at e h g q = cc
 finished r Activity d None at e h g q =
     let p = ok_then (active d) (Ok d) _ e q in
-    let same = ok_same d e p.1 in
+    let same : d ≡ e = cc in
     (whole_none d ∙ same, subst (Within r) same (within r d h g.0 g.1 g.2 p.0))
 finished r Activity d (Some a) at e h g q = absurd g
 finished r Edge d None at e h g q =
-    let same = ok_same d e q in
+    let same : d ≡ e = cc in
     (whole_none d ∙ same, subst (Within r) same (within r d h g.0 g.1 g.2 g.3))
 finished r Edge d (Some a) at e h g q = absurd g
 
@@ -129,7 +123,7 @@ module _ (r : Relations) (input : List ℕ) (small : AllByRecursion (λ b. b < 2
 
   one_more : (next : Reading → ℕ → Result Description Refusal) → ((s : Reading) (at : ℕ) → GoesOn next s at)
       → (s : Reading) (at : ℕ) (v : Result Reached Refusal) → one_field r input s at ≡ v → GoesOn (λ s at. after next v) s at
-  one_more next rest s at (Err f) q h g w e = no_ok f d e
+  one_more next rest s at (Err f) q h g w e = cc
   one_more next rest s at (Ok t) q h g w e =
       let p = stepped r input small s at h g t q in
       let y = p.x in
@@ -147,7 +141,7 @@ module _ (r : Relations) (input : List ℕ) (small : AllByRecursion (λ b. b < 2
 
   reads_written : (n : ℕ) (s : Reading) (at : ℕ) → GoesOn (reads r input n) s at
   unfolding reads
-  reads_written zero s at h g w e = no_ok _ d e
+  reads_written zero s at h g w e = cc
   reads_written (suc n) s at h g w e = more_or_end (reads r input n) (reads_written n) s at (ltb at (length input)) refl h g w e
 
   begun_right : (label : ℕ) → label < 2 ^ 32 → Right r (begun label).so_far None
@@ -168,7 +162,7 @@ module _ (r : Relations) (input : List ℕ) (small : AllByRecursion (λ b. b < 2
       ] ≡ Ok d
       → (input ≡ written d) × Within r d
   unfolding written
-  after_header (Err f) q e = no_ok _ d e
+  after_header (Err f) q e = cc
   after_header (Ok h) q e =
       let there = header_taken input small h q in
       let p = ok_then (eqb h.version 1) (reads r input (suc (length input)) (begun h.label) 9) _ d e in

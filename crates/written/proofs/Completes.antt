@@ -1,5 +1,5 @@
 -- The written form of a description within its limits is accepted.
-use Rattle.std.proofs.Common.{◌≡◌, ℕ, zero, suc, ◌+◌, ◌*◌, ◌^◌, ◌<◌, ◌≤◌, true, cond, ◌&&◌, eqb, ltb, leb, List, [], ◌∷◌, ◌++◌, map, length, get_or, Some, None, Ok, Err, Option, Result, sym, refl, ap, ◌∙◌, subst, append_assoc, append-nil, arith, lit<, length-append}
+use Rattle.std.proofs.Common.{◌≡◌, ℕ, suc, ◌+◌, ◌*◌, ◌^◌, ◌<◌, ◌≤◌, true, cond, ◌&&◌, eqb, ltb, leb, List, [], ◌∷◌, ◌++◌, map, length, get_or, Some, None, Ok, Err, Option, Result, sym, refl, ap, ◌∙◌, subst, append_assoc, append-nil, arith, lit<, length-append}
 use Rattle.std.specs.List.{flat_map, AllByRecursion}
 use Rattle.std.proofs.ByRecursion.{All-get_or}
 use Rattle.std.proofs.lemmas.Bool.{lt-ltb, ltb-true, leb-true, le-leb, cond-true, and_parts, and_from, or_right}
@@ -9,22 +9,24 @@ use Rattle.fields.proofs.Rounds.{round_at}
 use Rattle.records.specs.declared.header.Header.{Header as Head}
 use Rattle.records.specs.Headers.{header_in, header_bytes}
 use Rattle.records.specs.Returned.{header_back}
-use Rattle.costs.specs.declared.point.Point.{Point as PointPart}
-use Rattle.costs.specs.Costs.{point_right, last_from, right_from, points_right, may_follow}
+use Rattle.records.specs.declared.point.Point.{Point as PointPart}
+use Rattle.records.specs.Points.{point_right}
+use Rattle.costs.specs.Costs.{last_from, right_from, points_right, may_follow}
 use Rattle.kinds.specs.Relations.{Relations}
 use Rattle.model.specs.declared.refusal.Refusal.{Refusal}
 use Rattle.model.specs.declared.refusal.Refusal.TheVariants.{OutOfLimits}
-use Rattle.description.specs.declared.parts.Resource.{Resource as ResourcePart}
-use Rattle.description.specs.declared.parts.Activity.{Activity as ActivityPart}
-use Rattle.description.specs.declared.parts.Edge.{Edge as EdgePart}
+use Rattle.records.specs.declared.resource.Resource.{Resource as ResourcePart}
+use Rattle.records.specs.declared.activity.Activity.{Activity as ActivityPart}
+use Rattle.records.specs.declared.edge.Edge.{Edge as EdgePart}
 use Rattle.description.specs.declared.field_kind.FieldKind.{FieldKind}
 use Rattle.description.specs.declared.field_kind.FieldKind.TheVariants.{Header, Resource, Application, Point, Activity, Edge}
 use Rattle.description.specs.PlanFields.{PlanField, a_resource, a_point, an_activity, an_edge}
 use Rattle.description.specs.Descriptions.{Application as ApplicationPart, Description, no_application, application_at}
-use Rattle.description.specs.Limits.{Within, among, most_resources, most_applications, most_points, most_activities, most_edges, most_cells, timing_right, table_right, resource_right, activity_right, demand_taken, edge_right, cell_count, has_activity, all_active}
+use Rattle.description.specs.Limits.{Within, among, most_resources, most_applications, most_points, most_activities, most_edges, most_cells, timing_right, table_right, resource_right, activity_right, demand_taken, edge_right, cell_count, all_active}
 use Rattle.description.specs.Forms.{next_kind, fault_refusal}
 use Rattle.description.specs.Reader.{Reading, begun, completed, if_more_applications, if_more_activities, ended, judged, reads, opened}
 use Rattle.description.specs.Written.{field_bytes, application_fields, fields_of, written}
+use Rattle.written.proofs.Actives.{all_active-each}
 use Rattle.written.proofs.FieldsWritten.{Fits}
 use Rattle.written.proofs.ReadsOn.{Step, Leads, ends, goes, leads_read, fields_long}
 
@@ -97,10 +99,6 @@ right_here low (y ∷ done) x more h = right_here y.latency done x more (and_par
 cells_here : (done : List ActivityPart) (x : ActivityPart) (more : List ActivityPart) → cell_count done + x.turns ≤ cell_count (done ++ x ∷ more)
 cells_here [] x more = omega arith
 cells_here (y ∷ done) x more = omega (arith, cells_here done x more)
-
-all_active_from : (activities : List ActivityPart) (n : ℕ) → ((i : ℕ) → i < n → has_activity i activities ≡ true) → all_active n activities ≡ true
-all_active_from activities zero h = refl
-all_active_from activities (suc n) h = and_from _ _ (h n (omega arith)) (all_active_from activities n (λ i lt. h i (omega arith)))
 
 -- what the limits say of numbers that are written in four bytes
 timing_low : (period bound : ℕ) → timing_right period bound ≡ true → (period ≤ 1000000) × (bound ≤ 2 * period)
@@ -254,7 +252,7 @@ module _ (r : Relations) (d : Description) (w : Within r d) where
       }
 
   applications_are_active : all_active (length d.applications) d.activities ≡ true
-  applications_are_active = all_active_from d.activities (length d.applications) w.applications_active
+  applications_are_active = (all_active-each (length d.applications) d.activities).1 w.applications_active
 
   edge_step : (before : List EdgePart) (x : EdgePart) (more : List EdgePart) → before ++ x ∷ more ≡ d.edges
       → Step r (with_edges d before) (an_edge x) (with_edges d (before ++ x ∷ []))

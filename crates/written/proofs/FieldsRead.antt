@@ -2,7 +2,8 @@
 use Rattle.std.proofs.Common.{◌≡◌, ℕ, ◌+◌, ◌-◌, ◌^◌, ◌<◌, ◌≤◌, Bool, true, false, cond, List, ◌∷◌, ◌++◌, length, get_or, drop, Ok, Err, Result, sym, refl, ap, ◌∙◌, subst, arith}
 use Rattle.std.specs.List.{between, AllByRecursion}
 use Rattle.std.proofs.ByRecursion.{All-get_or, All-take, All-drop}
-use Rattle.std.proofs.lemmas.List.{drop-drop, length-take, length-drop, take-append-drop}
+use Rattle.std.proofs.lemmas.List.{drop-drop, take-append-drop}
+use Rattle.std.proofs.lemmas.List.Edits.{length-between}
 use Rattle.std.proofs.lemmas.Bool.{eqb-true, ltb-false}
 use Rattle.fields.specs.declared.record.FieldFault.{FieldFault}
 use Rattle.fields.specs.Bytes.{two_at, four_at, two_of}
@@ -15,27 +16,24 @@ use Rattle.records.specs.Applications.{application_in, application_bytes}
 use Rattle.records.specs.Points.{point_in, point_bytes}
 use Rattle.records.specs.Activities.{activity_in, activity_bytes}
 use Rattle.records.specs.Edges.{edge_in, edge_bytes}
-use Rattle.records.specs.Again.{header_again, resource_again, application_again, point_again}
-use Rattle.records.specs.Again.{activity_again, edge_again}
+use Rattle.records.specs.Again.{header_again, resource_again, application_again, point_again, activity_again, edge_again}
 use Rattle.description.specs.declared.field_kind.FieldKind.{FieldKind}
 use Rattle.description.specs.declared.field_kind.FieldKind.TheVariants.{Header, Resource, Application, Point, Activity, Edge}
 use Rattle.description.specs.PlanFields.{PlanField, a_resource, a_timing, a_point, an_activity, an_edge}
-use Rattle.description.specs.Forms.{field_at, field_size, said, resource_said, timing_said, point_said, activity_said, edge_said}
+use Rattle.description.specs.Forms.{field_at, field_size, said}
 use Rattle.description.specs.Written.{field_bytes}
-
-pub no_ok : {A E : Type 0} {G : Type 0} (e : E) (v : A) → ◌≡◌ {A = Result A E} (Err e) (Ok v) → G
-no_ok e v h = let z : ◌≡◌ {A = ℕ} 0 1 = cc in absurd (omega arith)
+use Rattle.written.proofs.FieldsWritten.{kind_of}
 
 -- the way of a test that leads to an `Ok`
 pub ok_else : {A E : Type 0} (b : Bool) (e : E) (y : Result A E) (v : A) → cond b (Err e) y ≡ Ok v → (b ≡ false) × (y ≡ Ok v)
-ok_else true e y v h = no_ok e v h
+ok_else true e y v h = cc
 ok_else false e y v h = (refl, h)
 
 pub ok_then : {A E : Type 0} (b : Bool) (x : Result A E) (e : E) (v : A) → cond b x (Err e) ≡ Ok v → (b ≡ true) × (x ≡ Ok v)
 ok_then true x e v h = (refl, h)
-ok_then false x e v h = no_ok e v h
+ok_then false x e v h = cc
 
-pub ok_same : {A E : Type 0} (x y : A) → ◌≡◌ {A = Result A E} (Ok x) (Ok y) → x ≡ y
+ok_same : {A E : Type 0} (x y : A) → ◌≡◌ {A = Result A E} (Ok x) (Ok y) → x ≡ y
 ok_same x y h = cc
 
 -- a field with this tag and length is there, and says x
@@ -60,7 +58,7 @@ found tag len parse input at x e =
 
 -- what a body is, of a field that is there
 body_length : (input : List ℕ) (at len : ℕ) → at + 3 + len ≤ length input → length (between (at + 3) (at + 3 + len) input) ≡ len
-body_length input at len inside = length-take (at + 3 + len - (at + 3)) (drop (at + 3) input) ∙ omega (arith, length-drop (at + 3) input)
+body_length input at len inside = length-between input (at + 3) (at + 3 + len) inside ∙ omega arith
 
 body_small : (input : List ℕ) (at len : ℕ) → AllByRecursion (λ b. b < 256) input → AllByRecursion (λ b. b < 256) (between (at + 3) (at + 3 + len) input)
 body_small input at len small =
@@ -98,13 +96,6 @@ four_fits : (xs : List ℕ) (i : ℕ) → AllByRecursion (λ b. b < 256) xs → 
 four_fits xs i h lt =
     omega (arith, All-get_or (λ b. b < 256) xs i 0 (omega arith) h, All-get_or (λ b. b < 256) xs (i + 1) 0 (omega arith) h, All-get_or (λ b. b < 256) xs (i + 2) 0 (omega arith) h, All-get_or (λ b. b < 256) xs (i + 3) 0 lt h)
 
-abbrev pub kind_of : PlanField → FieldKind
-kind_of (a_resource x) = Resource
-kind_of (a_timing x) = Application
-kind_of (a_point x) = Point
-kind_of (an_activity x) = Activity
-kind_of (an_edge x) = Edge
-
 -- what no limit bounds fits its bytes
 abbrev pub Fits : PlanField → Type 0
 Fits (a_resource x) = (x.kind < 2 ^ 16) × (length x.numbers ≡ 4) × AllByRecursion (λ n. n < 2 ^ 32) x.numbers
@@ -120,8 +111,8 @@ pub record Taken (k : FieldKind) (input : List ℕ) (at : ℕ) (x : PlanField) :
   pub bytes_are : drop at input ≡ field_bytes x ++ drop (at + field_size k) input
 
 said_ok : {X : Type 0} (f : X → PlanField) (a : Result X FieldFault) (p : PlanField) → said f a ≡ Ok p → (x : X) × (a ≡ Ok x) × (f x ≡ p)
-said_ok f (Ok x) p h = (x, refl, ok_same (f x) p h)
-said_ok f (Err e) p h = no_ok e p h
+said_ok f (Ok x) p h = (x, refl, cc)
+said_ok f (Err e) p h = cc
 
 module _ (input : List ℕ) (small : AllByRecursion (λ b. b < 256) input) (at : ℕ) where
   -- a field that one kind of reader gives
@@ -147,16 +138,16 @@ module _ (input : List ℕ) (small : AllByRecursion (λ b. b < 256) input) (at :
       })
 
   pub field_taken : (k : FieldKind) (p : PlanField) → field_at k input at ≡ Ok p → Taken k input at p
-  field_taken Header p e = no_ok _ p e
+  field_taken Header p e = cc
   field_taken Resource p e =
-      taken Resource 82 18 resource_in resource_bytes resource_said resource_again (λ x. refl) (λ x. refl)
+      taken Resource 82 18 resource_in resource_bytes a_resource resource_again (λ x. refl) (λ x. refl)
       (λ xs l h. (two_fits xs 0 h (omega arith), refl, (four_fits xs 2 h (omega arith), (four_fits xs 6 h (omega arith), (four_fits xs 10 h (omega arith), (four_fits xs 14 h (omega arith), tt)))))) refl p e
-  field_taken Application p e = taken Application 65 8 application_in application_bytes timing_said application_again (λ x. refl) (λ x. refl) (λ xs l h. tt) refl p e
-  field_taken Point p e = taken Point 80 8 point_in point_bytes point_said point_again (λ x. refl) (λ x. refl) (λ xs l h. tt) refl p e
+  field_taken Application p e = taken Application 65 8 application_in application_bytes a_timing application_again (λ x. refl) (λ x. refl) (λ xs l h. tt) refl p e
+  field_taken Point p e = taken Point 80 8 point_in point_bytes a_point point_again (λ x. refl) (λ x. refl) (λ xs l h. tt) refl p e
   field_taken Activity p e =
-      taken Activity 84 12 activity_in activity_bytes activity_said activity_again (λ x. refl) (λ x. refl)
+      taken Activity 84 12 activity_in activity_bytes an_activity activity_again (λ x. refl) (λ x. refl)
       (λ xs l h. omega (arith, All-get_or (λ b. b < 256) xs 2 0 (omega arith) h)) refl p e
-  field_taken Edge p e = taken Edge 69 4 edge_in edge_bytes edge_said edge_again (λ x. refl) (λ x. refl) (λ xs l h. tt) refl p e
+  field_taken Edge p e = taken Edge 69 4 edge_in edge_bytes an_edge edge_again (λ x. refl) (λ x. refl) (λ xs l h. tt) refl p e
 
 -- the header at the beginning
 pub header_taken : (input : List ℕ) → AllByRecursion (λ b. b < 256) input → (h : HeaderField) → reading 72 6 header_in input 0 ≡ Ok h

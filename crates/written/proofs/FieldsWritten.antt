@@ -1,19 +1,18 @@
 -- A written field is read back, wherever it stands.
-use Rattle.std.proofs.Common.{◌≡◌, ℕ, List, ◌++◌, length, get_or, Ok, refl, ap, ◌∙◌, lit<}
+use Rattle.std.proofs.Common.{◌≡◌, ℕ, ◌<◌, List, ◌++◌, length, get_or, Ok, refl, ap, ◌∙◌, lit<}
 use Rattle.std.proofs.lemmas.List.{get_or_at}
+use Rattle.fields.specs.Fields.{field_of, reading}
 use Rattle.fields.proofs.Rounds.{round_at}
-use Rattle.records.specs.declared.activity.ActivityField.{ActivityField}
 use Rattle.records.specs.Resources.{resource_in, resource_bytes, ResourceFits}
 use Rattle.records.specs.Applications.{application_in, application_bytes, ApplicationFits}
 use Rattle.records.specs.Points.{point_in, point_bytes, PointFits}
 use Rattle.records.specs.Activities.{activity_in, activity_bytes, ActivityFits}
 use Rattle.records.specs.Edges.{edge_in, edge_bytes, EdgeFits}
-use Rattle.records.specs.Returned.{resource_back, application_back, point_back}
-use Rattle.records.specs.Returned.{activity_back, edge_back}
+use Rattle.records.specs.Returned.{resource_back, application_back, point_back, activity_back, edge_back}
 use Rattle.description.specs.declared.field_kind.FieldKind.{FieldKind}
 use Rattle.description.specs.declared.field_kind.FieldKind.TheVariants.{Resource, Application, Point, Activity, Edge}
 use Rattle.description.specs.PlanFields.{PlanField, a_resource, a_timing, a_point, an_activity, an_edge}
-use Rattle.description.specs.Forms.{field_at, field_size, said, resource_said, timing_said, point_said, activity_said, edge_said}
+use Rattle.description.specs.Forms.{field_at, field_size, said}
 use Rattle.description.specs.Written.{field_bytes}
 
 abbrev pub kind_of : PlanField → FieldKind
@@ -32,12 +31,11 @@ letter (an_edge x) = 69
 
 -- its numbers fit the bytes that they are written in
 abbrev pub Fits : PlanField → Type 0
-Fits (a_resource x) = ResourceFits (record { kind = x.kind; numbers = x.numbers })
-Fits (a_timing x) = ApplicationFits (record { period = x.period; bound = x.bound })
-Fits (a_point x) = PointFits (record { latency = x.latency; cost = x.cost })
-Fits (an_activity x) =
-    ActivityFits (record { application = x.application; resource = x.resource; sender = x.sender; turns = x.turns; demand = x.demand; jitter = x.jitter })
-Fits (an_edge x) = EdgeFits (record { from = x.from; to = x.to })
+Fits (a_resource x) = ResourceFits x
+Fits (a_timing x) = ApplicationFits x
+Fits (a_point x) = PointFits x
+Fits (an_activity x) = ActivityFits x
+Fits (an_edge x) = EdgeFits x
 
 pub size_written : (x : PlanField) → length (field_bytes x) ≡ field_size (kind_of x)
 size_written (a_resource x) = refl
@@ -54,15 +52,15 @@ module _ (p rest : List ℕ) where
   letter_written (an_activity x) = get_or_at p _ _ 0 (length p) refl
   letter_written (an_edge x) = get_or_at p _ _ 0 (length p) refl
 
+  -- one kind of field, whose record is read back
+  one_written : {X : Type 0} (tag len : ℕ) (parse : List ℕ → X) (bytes : X → List ℕ) (f : X → PlanField) (x : X)
+      → length (bytes x) ≡ len → len < 65536 → parse (bytes x) ≡ x
+      → said f (reading tag len parse (p ++ (field_of tag len (bytes x) ++ rest)) (length p)) ≡ Ok (f x)
+  one_written tag len parse bytes f x long lt back = ap (said f) (round_at tag len parse p (bytes x) rest long lt ∙ ap Ok back)
+
   pub field_written : (x : PlanField) → Fits x → field_at (kind_of x) (p ++ (field_bytes x ++ rest)) (length p) ≡ Ok x
-  field_written (a_resource x) h =
-      ap (said resource_said) (round_at 82 18 resource_in p (resource_bytes (record { kind = x.kind; numbers = x.numbers })) rest refl (lit< tt)) ∙ ap (λ y. Ok (resource_said y)) (resource_back _ h)
-  field_written (a_timing x) h =
-      ap (said timing_said) (round_at 65 8 application_in p (application_bytes (record { period = x.period; bound = x.bound })) rest refl (lit< tt)) ∙ ap (λ y. Ok (timing_said y)) (application_back _ h)
-  field_written (a_point x) h =
-      ap (said point_said) (round_at 80 8 point_in p (point_bytes (record { latency = x.latency; cost = x.cost })) rest refl (lit< tt)) ∙ ap (λ y. Ok (point_said y)) (point_back _ h)
-  field_written (an_activity x) h =
-      let y : ActivityField = record { application = x.application; resource = x.resource; sender = x.sender; turns = x.turns; demand = x.demand; jitter = x.jitter } in
-      ap (said activity_said) (round_at 84 12 activity_in p (activity_bytes y) rest refl (lit< tt)) ∙ ap (λ y. Ok (activity_said y)) (activity_back _ h)
-  field_written (an_edge x) h =
-      ap (said edge_said) (round_at 69 4 edge_in p (edge_bytes (record { from = x.from; to = x.to })) rest refl (lit< tt)) ∙ ap (λ y. Ok (edge_said y)) (edge_back _ h)
+  field_written (a_resource x) h = one_written 82 18 resource_in resource_bytes a_resource x refl (lit< tt) (resource_back x h)
+  field_written (a_timing x) h = one_written 65 8 application_in application_bytes a_timing x refl (lit< tt) (application_back x h)
+  field_written (a_point x) h = one_written 80 8 point_in point_bytes a_point x refl (lit< tt) (point_back x h)
+  field_written (an_activity x) h = one_written 84 12 activity_in activity_bytes an_activity x refl (lit< tt) (activity_back x h)
+  field_written (an_edge x) h = one_written 69 4 edge_in edge_bytes an_edge x refl (lit< tt) (edge_back x h)

@@ -4,15 +4,17 @@ use Rattle.std.specs.List.{flat_map, AllByRecursion}
 use Rattle.std.proofs.ByRecursion.{All-push}
 use Rattle.std.proofs.lemmas.List.{append-nil, append_assoc, flat_map_more, length_push, map_push}
 use Rattle.std.proofs.lemmas.Bool.{and_parts, and_from, or_cases, leb-true, ltb-true}
-use Rattle.costs.specs.declared.point.Point.{Point as PointPart}
+use Rattle.records.specs.declared.point.Point.{Point as PointPart}
 use Rattle.costs.specs.Costs.{points_right, may_follow}
+use Rattle.std.proofs.lemmas.Option.{cond_some}
 use Rattle.costs.proofs.Rising.{points_right-push}
 use Rattle.kinds.specs.Relations.{Relations}
 use Rattle.model.specs.declared.refusal.Refusal.{Refusal}
-use Rattle.description.specs.declared.parts.Resource.{Resource as ResourcePart}
-use Rattle.description.specs.declared.parts.Activity.{Activity as ActivityPart}
-use Rattle.description.specs.declared.parts.Edge.{Edge as EdgePart}
-use Rattle.description.specs.PlanFields.{PlanField, a_resource, a_timing, a_point, an_activity, an_edge, Timing}
+use Rattle.records.specs.declared.resource.Resource.{Resource as ResourcePart}
+use Rattle.records.specs.declared.activity.Activity.{Activity as ActivityPart}
+use Rattle.records.specs.declared.edge.Edge.{Edge as EdgePart}
+use Rattle.description.specs.PlanFields.{PlanField, a_resource, a_timing, a_point, an_activity, an_edge}
+use Rattle.records.specs.declared.application.ApplicationField.{ApplicationField}
 use Rattle.description.specs.declared.field_kind.FieldKind.{FieldKind}
 use Rattle.description.specs.declared.field_kind.FieldKind.TheVariants.{Header, Resource, Application, Point, Activity, Edge}
 use Rattle.description.specs.Descriptions.{Application as ApplicationPart, Description}
@@ -20,7 +22,8 @@ use Rattle.description.specs.Limits.{most_resources, most_applications, most_poi
 use Rattle.description.specs.Forms.{next_kind}
 use Rattle.description.specs.Reader.{Reading, with_applications, completed, if_more_applications, if_more_activities, is_edge, active, settled, unless, judged, grown}
 use Rattle.description.specs.Written.{application_fields, fields_of}
-use Rattle.written.proofs.FieldsRead.{kind_of, Fits}
+use Rattle.written.proofs.FieldsWritten.{kind_of}
+use Rattle.written.proofs.FieldsRead.{Fits}
 
 abbrev pub list_of : Option ApplicationPart → List ApplicationPart
 list_of None = []
@@ -101,9 +104,6 @@ Ready last Activity d (Some a) = (1 ≤ length d.resources) × (d.activities ≡
 Ready last Edge d None = (1 ≤ length d.resources) × (1 ≤ length d.applications) × (1 ≤ length d.activities) × (is_edge last ≡ true → active d ≡ true)
 Ready last Edge d (Some a) = ⊥
 
-no_some : {A : Type 0} {G : Type 0} (x : A) → None ≡ Some x → G
-no_some x h = let z : ◌≡◌ {A = ℕ} 0 1 = cc in absurd (omega arith)
-
 -- the ways of a test that lead to a kind
 kind_by : (P : FieldKind → Type 0) (b : Bool) (one k : FieldKind) (others : Option FieldKind)
     → cond b (Some one) others ≡ Some k → P one → (others ≡ Some k → P k) → P k
@@ -113,24 +113,24 @@ kind_by P false one k others e here there = there e
 -- a tag that may come next
 ready : (last : FieldKind) (d : Description) (c : Option ApplicationPart) (tag : ℕ) (k : FieldKind)
     → Stage last d c → next_kind last tag ≡ Some k → Ready last k d c
-ready Header d None tag k s e = kind_by (λ k. Ready Header k d None) (eqb tag 82) Resource k None e s (no_some k)
+ready Header d None tag k s e = kind_by (λ k. Ready Header k d None) (eqb tag 82) Resource k None e s (λ e. cc)
 ready Header d (Some a) tag k s e = absurd s
 ready Resource d None tag k s e =
     kind_by (λ k. Ready Resource k d None) (eqb tag 82) Resource k _ e (s.1, s.2, s.3)
-    (λ e. kind_by (λ k. Ready Resource k d None) (eqb tag 65) Application k None e (s.0, s.2, s.3) (no_some k))
+    (λ e. kind_by (λ k. Ready Resource k d None) (eqb tag 65) Application k None e (s.0, s.2, s.3) (λ e. cc))
 ready Resource d (Some a) tag k s e = absurd s
 ready Application d None tag k s e = absurd s
-ready Application d (Some a) tag k s e = kind_by (λ k. Ready Application k d (Some a)) (eqb tag 80) Point k None e s (no_some k)
+ready Application d (Some a) tag k s e = kind_by (λ k. Ready Application k d (Some a)) (eqb tag 80) Point k None e s (λ e. cc)
 ready Point d None tag k s e = absurd s
 ready Point d (Some a) tag k s e =
     kind_by (λ k. Ready Point k d (Some a)) (eqb tag 80) Point k _ e s
     (λ e. kind_by (λ k. Ready Point k d (Some a)) (eqb tag 65) Application k _ e s
-    (λ e. kind_by (λ k. Ready Point k d (Some a)) (eqb tag 84) Activity k None e s (no_some k)))
+    (λ e. kind_by (λ k. Ready Point k d (Some a)) (eqb tag 84) Activity k None e s (λ e. cc)))
 ready Activity d None tag k s e =
     kind_by (λ k. Ready Activity k d None) (eqb tag 84) Activity k _ e (s.0, s.1, s.3)
-    (λ e. kind_by (λ k. Ready Activity k d None) (eqb tag 69) Edge k None e (s.0, s.1, s.2, λ f. cc) (no_some k))
+    (λ e. kind_by (λ k. Ready Activity k d None) (eqb tag 69) Edge k None e (s.0, s.1, s.2, λ f. cc) (λ e. cc))
 ready Activity d (Some a) tag k s e = absurd s
-ready Edge d None tag k s e = kind_by (λ k. Ready Edge k d None) (eqb tag 69) Edge k None e (s.0, s.1, s.2, λ f. s.3) (no_some k)
+ready Edge d None tag k s e = kind_by (λ k. Ready Edge k d None) (eqb tag 69) Edge k None e (s.0, s.1, s.2, λ f. s.3) (λ e. cc)
 ready Edge d (Some a) tag k s e = absurd s
 
 -- one field more
@@ -142,11 +142,10 @@ pub record Grew (r : Relations) (d : Description) (c : Option ApplicationPart) (
 
 -- one element more of a list that comes last
 late : {X : Type 0} (ys rest : List X) (y : X) → rest ≡ [] → (ys ++ y ∷ []) ++ rest ≡ (ys ++ rest) ++ y ∷ []
-late ys rest y e =
-    ap (λ l. (ys ++ y ∷ []) ++ l) e ∙ append-nil (ys ++ y ∷ []) ∙ sym (ap (λ l. l ++ y ∷ []) (ap (λ l. ys ++ l) e ∙ append-nil ys))
+late ys rest y e = simp (e, append-nil)
 
 late_in : {X : Type 0} (front ys rest : List X) (y : X) → rest ≡ [] → front ++ ((ys ++ y ∷ []) ++ rest) ≡ (front ++ (ys ++ rest)) ++ y ∷ []
-late_in front ys rest y e = ap (λ l. front ++ l) (late ys rest y e) ∙ sym (append_assoc front (ys ++ rest) (y ∷ []))
+late_in front ys rest y e = simp (e, append-nil, append_assoc)
 
 joined_push : {X A : Type 0} (f : X → List A) (xs : List X) (x : X) → flat_map f (xs ++ x ∷ []) ≡ flat_map f xs ++ f x
 joined_push f xs x = sym (flat_map_more f [] xs x)
@@ -192,7 +191,7 @@ module _ (r : Relations) (last : FieldKind) (d : Description) where
             ∙ late (map a_resource rs) _ (a_resource x) rest;
       }
 
-  grow_timing : (x : Timing) → Right r d None → Ready last Application d None → length d.applications < most_applications
+  grow_timing : (x : ApplicationField) → Right r d None → Ready last Application d None → length d.applications < most_applications
       → timing_right x.period x.bound ≡ true → Grew r d None (a_timing x) (grown (record { last = last; so_far = d; current = None }) (a_timing x))
   grow_timing x h s few sound =
       let no_activities = s.1 in
@@ -303,28 +302,24 @@ module _ (r : Relations) (last : FieldKind) (d : Description) where
         fields_more = simp (map_push, append_assoc);
       }
 
-some_then : {A : Type 0} (b : Bool) (x y : A) → cond b (Some x) None ≡ Some y → (b ≡ true) × (x ≡ y)
-some_then true x y e = (refl, cc)
-some_then false x y e = no_some y e
-
 unless_none : (b : Bool) (e : Refusal) → unless b e ≡ None → b ≡ true
 unless_none true e h = refl
-unless_none false e h = no_some e (sym h)
+unless_none false e h = cc
 
 none_then : {A : Type 0} (b : Bool) (o : Option A) (x : A) → cond b o (Some x) ≡ None → (b ≡ true) × (o ≡ None)
 none_then true o x h = (refl, h)
-none_then false o x h = no_some x (sym h)
+none_then false o x h = cc
 
 more_applications : (o : Option Reading) (t : Reading) → if_more_applications o ≡ Some t → (o ≡ Some t) × (length t.so_far.applications < most_applications)
-more_applications None t e = no_some t e
+more_applications None t e = cc
 more_applications (Some u) t e =
-    let p = some_then _ u t e in
+    let p = cond_some _ u t e in
     (ap Some p.1, subst (λ t. length t.so_far.applications < most_applications) p.1 (ltb-true _ most_applications p.0))
 
 more_activities : (o : Option Reading) (t : Reading) → if_more_activities o ≡ Some t → (o ≡ Some t) × (length t.so_far.activities < most_activities)
-more_activities None t e = no_some t e
+more_activities None t e = cc
 more_activities (Some u) t e =
-    let p = some_then _ u t e in
+    let p = cond_some _ u t e in
     (ap Some p.1, subst (λ t. length t.so_far.activities < most_activities) p.1 (ltb-true _ most_activities p.0))
 
 -- no activity comes before the current application is complete
@@ -339,7 +334,7 @@ module _ (r : Relations) (last : FieldKind) (d : Description) where
   whole_right None t h s e =
       (subst (λ w. record { last = last; so_far = w; current = None } ≡ t) (sym (whole_none d)) (cc), subst (λ w. Right r w None) (sym (whole_none d)) h)
   whole_right (Some a) t h s e =
-      let p = some_then (table_right a) (record { last = last; so_far = whole d (Some a); current = None }) t e in
+      let p = cond_some (table_right a) (record { last = last; so_far = whole d (Some a); current = None }) t e in
       let ys = d.applications in
       let long = length_push ys a in (
         p.1,
@@ -384,12 +379,12 @@ module _ (r : Relations) (last : FieldKind) (d : Description) where
       → settled (record { last = last; so_far = d; current = c }) Resource ≡ Some t → Fits (a_resource x) → judged r t (a_resource x) at ≡ None
       → Grew r d c (a_resource x) (grown t (a_resource x))
   after_resource None x at t h s e fits j =
-      let p = some_then _ (record { last = last; so_far = d; current = None }) t e in
+      let p = cond_some _ (record { last = last; so_far = d; current = None }) t e in
       subst (λ t. Grew r d None (a_resource x) (grown t (a_resource x))) p.1
       (grow_resource r last d x h s (ltb-true _ most_resources p.0) (unless_none _ _ j) fits)
   after_resource (Some a) x at t h s e fits j = absurd s
 
-  after_timing : (c : Option ApplicationPart) (x : Timing) (at : ℕ) (t : Reading) → Right r d c → Ready last Application d c
+  after_timing : (c : Option ApplicationPart) (x : ApplicationField) (at : ℕ) (t : Reading) → Right r d c → Ready last Application d c
       → settled (record { last = last; so_far = d; current = c }) Application ≡ Some t → judged r t (a_timing x) at ≡ None
       → Grew r d c (a_timing x) (grown t (a_timing x))
   after_timing c x at t h s e j =
@@ -403,7 +398,7 @@ module _ (r : Relations) (last : FieldKind) (d : Description) where
       → Grew r d c (a_point x) (grown t (a_point x))
   after_point None x at t h s e j = absurd s
   after_point (Some a) x at t h s e j =
-      let p = some_then _ (record { last = last; so_far = d; current = Some a }) t e in
+      let p = cond_some _ (record { last = last; so_far = d; current = Some a }) t e in
       subst (λ t. judged r t (a_point x) at ≡ None → Grew r d (Some a) (a_point x) (grown t (a_point x))) p.1
       (λ j. grow_point r last d a x h s (ltb-true _ most_points p.0) (unless_none _ _ j)) j
 
@@ -424,7 +419,7 @@ module _ (r : Relations) (last : FieldKind) (d : Description) where
       → settled (record { last = last; so_far = d; current = c }) Edge ≡ Some t → judged r t (an_edge x) at ≡ None
       → Grew r d c (an_edge x) (grown t (an_edge x))
   after_edge None x at t h s e j =
-      let p = some_then _ (record { last = last; so_far = d; current = None }) t e in
+      let p = cond_some _ (record { last = last; so_far = d; current = None }) t e in
       let q = and_parts (ltb (length d.edges) most_edges) (is_edge last || active d) p.0 in
       subst (λ t. judged r t (an_edge x) at ≡ None → Grew r d None (an_edge x) (grown t (an_edge x))) p.1
       (λ j. grow_edge r last d x h s (⊎_elim s.3 (λ f. f) (or_cases (is_edge last) (active d) q.1)) (ltb-true _ most_edges q.0) (unless_none _ _ j)) j

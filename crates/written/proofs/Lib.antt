@@ -1,3 +1,4 @@
+pub mod Actives
 pub mod FieldsRead
 pub mod FieldsWritten
 pub mod Growing
