@@ -2,7 +2,7 @@
 use Rattle.std.proofs.Common.{◌≡◌, ℕ, zero, suc, ◌+◌, Bool, true, false, ◌&&◌, ◌||◌, eqb, List, [], ◌∷◌, sym, refl, ap, ◌∙◌, arith}
 use Rattle.std.specs.List.{list_any, list_all, range_with_len}
 use Rattle.std.proofs.Math.Bool.{and-true, and_assoc}
-use Rattle.description.specs.declared.parts.Activity.{Activity}
+use Rattle.records.specs.declared.activity.Activity.{Activity}
 use Rattle.description.specs.Limits.{has_activity, all_active}
 
 pub any_active : (i : ℕ) (xs : List Activity) → list_any (λ a. eqb a.application i) xs ≡ has_activity i xs

@@ -2,8 +2,8 @@
 use Rattle.std.proofs.Common.{◌≡◌, ℕ, ◌+◌, ◌<◌, ◌≤◌, true, leb, List, [], ◌∷◌, ◌++◌, length, get_or, sym, subst, ⊎_elim, arith}
 use Rattle.std.proofs.lemmas.List.{get_or_append_left, get_or_push}
 use Rattle.std.proofs.lemmas.Bool.{and_parts, cases_lt, leb-true, ltb-true}
-use Rattle.description.specs.declared.parts.Activity.{Activity}
-use Rattle.description.specs.declared.parts.Edge.{Edge}
+use Rattle.records.specs.declared.activity.Activity.{Activity}
+use Rattle.records.specs.declared.edge.Edge.{Edge}
 use Rattle.description.specs.Descriptions.{Description}
 use Rattle.description.specs.Limits.{activity_right, edge_right, cell_count}
 use Rattle.reader.specs.Known.{KnownActivity, KnownEdge}

@@ -1,7 +1,7 @@
 -- What every part of a description keeps, so that it can be looked up.
 use Rattle.std.specs.Prelude.{ℕ, ◌<◌, ◌≤◌, List, slice_index_or}
-use Rattle.description.specs.declared.parts.Activity.{Activity}
-use Rattle.description.specs.declared.parts.Edge.{Edge}
+use Rattle.records.specs.declared.activity.Activity.{Activity}
+use Rattle.records.specs.declared.edge.Edge.{Edge}
 use Rattle.description.specs.Descriptions.{no_activity}
 
 abbrev pub activity_of : List Activity → ℕ → Activity

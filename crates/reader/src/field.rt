@@ -26,8 +26,8 @@ impl<K> Field<'_, K> {
 
     // Its record; a fault is refused with its place.
     pub(crate) fn fetch<R: Record>(&self) -> Result<R, Refusal>
-        ensures answer { Fetched result (reading R.Record.tag R.Record.len R.Record.parse self.now.input.now self.now.at) self.now.at }
-        ensures inside { is_ok result ≡ true → self.now.at + 3 + R.Record.len ≤ length self.now.input.now }
+        ensures answer { Fetched result (reading R.TAG R.LEN R.parse self.now.input.now self.now.at) self.now.at }
+        ensures inside { is_ok result ≡ true → self.now.at + 3 + R.LEN ≤ length self.now.input.now }
     {
         let place = self.place();
         read_field(self.input, self.at).map_err(|fault| refuse_fault(fault, place))

@@ -12,7 +12,7 @@ use costs::Point;
 use description::{Activity, Edge, FieldKind, Resource};
 use kinds::Kind;
 use model::Refusal;
-use records::{ActivityField, ApplicationField, EdgeField, PointField, ResourceField};
+use records::ApplicationField;
 
 impl Description {
     pub(crate) fn take_resource<K: Kind>(
@@ -24,17 +24,13 @@ impl Description {
         ensures { Goes result field.now.at self.new stage.new (read_settled (K.Kind.relations field.now.kind.now) field.now.input.now FieldKind.Resource field.now.at (settled (reading_of self.old stage.old) FieldKind.Resource)) }
     {
         field.allow_one_more(self.resources.len(), 32)?;
-        let said = field.fetch::<ResourceField>()?;
-        let numbers = said.numbers;
-        if !field.kind.sound(said.kind, numbers) {
+        let resource = field.fetch::<Resource>()?;
+        if !field.kind.sound(resource.kind, resource.numbers) {
             return Err(Refusal::UnsoundResource(field.place()));
         }
-        self.add_resource(Resource {
-            kind: said.kind,
-            numbers,
-        });
+        self.add_resource(resource);
         *stage = Stage::Resource;
-        Ok(field.at + 21)
+        Ok(field.at + FieldKind::Resource.size())
     }
 
     pub(crate) fn take_application<K: Kind>(
@@ -50,7 +46,7 @@ impl Description {
         let ApplicationField { period, bound } = field.fetch()?;
         let draft = Draft::new(period, bound).ok_or(Refusal::OutOfLimits(field.place()))?;
         *stage = Stage::Application(draft);
-        Ok(field.at + 11)
+        Ok(field.at + FieldKind::Application.size())
     }
 
     pub(crate) fn take_point<K: Kind>(
@@ -66,16 +62,12 @@ impl Description {
             return Err(Refusal::WrongTag(field.place()));
         };
         field.allow_one_more(draft.points.len(), 20)?;
-        let said = field.fetch::<PointField>()?;
-        let point = Point {
-            latency: said.latency,
-            cost: said.cost,
-        };
+        let point = field.fetch::<Point>()?;
         if draft.add(point).is_err() {
             return Err(Refusal::OutOfLimits(field.place()));
         }
         *stage = Stage::Application(draft);
-        Ok(field.at + 11)
+        Ok(field.at + FieldKind::Point.size())
     }
 
     pub(crate) fn take_activity<K: Kind>(
@@ -88,19 +80,11 @@ impl Description {
     {
         self.complete(*stage, field.place())?;
         field.allow_one_more(self.activities.len(), 512)?;
-        let said = field.fetch::<ActivityField>()?;
-        let activity = Activity {
-            application: said.application,
-            resource: said.resource,
-            sender: said.sender,
-            turns: said.turns,
-            demand: said.demand,
-            jitter: said.jitter,
-        };
+        let activity = field.fetch::<Activity>()?;
         self.judge_activity(activity, field)?;
         self.add_activity(activity);
         *stage = Stage::Activity;
-        Ok(field.at + 15)
+        Ok(field.at + FieldKind::Activity.size())
     }
 
     pub(crate) fn take_edge<K: Kind>(
@@ -115,16 +99,12 @@ impl Description {
         if !(stage.is_edge() || self.is_active()) {
             return Err(Refusal::WrongCount(field.place()));
         }
-        let said = field.fetch::<EdgeField>()?;
-        let edge = Edge {
-            from: said.from,
-            to: said.to,
-        };
+        let edge = field.fetch::<Edge>()?;
         if !self.edge_right(edge) {
             return Err(Refusal::WrongEdge(field.place()));
         }
         self.add_edge(edge);
         *stage = Stage::Edge;
-        Ok(field.at + 7)
+        Ok(field.at + FieldKind::Edge.size())
     }
 }

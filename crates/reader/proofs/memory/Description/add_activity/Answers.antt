@@ -1,6 +1,6 @@
 use Rattle.std.proofs.Common.{◌≡◌, ◌+◌, length, vec_items, vec_len, sym, ap, ◌∙◌, arith}
 use Rattle.std.proofs.lemmas.List.{length-map}
-use Rattle.description.specs.declared.parts.Activity.{Activity}
+use Rattle.records.specs.declared.activity.Activity.{Activity}
 use Rattle.description.specs.Limits.{cell_count}
 use Rattle.reader.specs.Described.{application_of, described}
 use Rattle.reader.specs.Known.{KnownActivity}

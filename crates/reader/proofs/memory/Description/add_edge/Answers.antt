@@ -1,5 +1,5 @@
 use Rattle.std.proofs.Common.{◌≡◌, length, vec_items, vec_len, sym, arith}
-use Rattle.description.specs.declared.parts.Edge.{Edge}
+use Rattle.records.specs.declared.edge.Edge.{Edge}
 use Rattle.reader.specs.Described.{described}
 use Rattle.reader.specs.Known.{KnownEdge}
 use Rattle.reader.proofs.Pushing.{each_push, right_is_known_edge}
