@@ -1,4 +1,3 @@
 pub mod Actives
 pub mod Pushing
-pub mod FieldSteps
 pub mod FieldRuns

@@ -3,10 +3,9 @@ use Rattle.std.proofs.Common.{◌≡◌, ℕ, ◌+◌, ◌<◌, ◌≤◌, true,
 use Rattle.std.proofs.lemmas.List.{get_or_append_left, get_or_push}
 use Rattle.std.proofs.lemmas.Bool.{and_parts, cases_lt, leb-true, ltb-true}
 use Rattle.records.specs.declared.activity.Activity.{Activity}
-use Rattle.records.specs.declared.edge.Edge.{Edge}
 use Rattle.description.specs.Descriptions.{Description}
-use Rattle.description.specs.Limits.{activity_right, edge_right, cell_count}
-use Rattle.reader.specs.Known.{KnownActivity, KnownEdge}
+use Rattle.description.specs.Limits.{activity_right, cell_count}
+use Rattle.reader.specs.Known.{KnownActivity}
 
 pub each_push : {X : Type 0} (P : X → Type 0) (xs ys : List X) (x d : X) (n m : ℕ) → n ≡ length xs → m ≡ n + 1 → ys ≡ xs ++ x ∷ [] → ((i : ℕ) → i < n → P (get_or xs i d)) → P x → (i : ℕ) → i < m → P (get_or ys i d)
 each_push P xs ys x d n m e l f old new i h =
@@ -28,9 +27,3 @@ right_is_known d x h =
     let c = and_parts _ _ b.1 in
     let t = and_parts (leb 1 x.turns) (leb x.turns 64) c.0 in
     (ltb-true _ _ a.0, ltb-true _ _ b.0, leb-true _ _ t.0, leb-true _ _ t.1)
-
-pub right_is_known_edge : (d : Description) (x : Edge) → edge_right d x ≡ true → KnownEdge (length d.activities) x
-right_is_known_edge d x h =
-    let a = and_parts _ _ h in
-    let b = and_parts _ _ a.1 in
-    (ltb-true _ _ a.0, ltb-true _ _ b.0)
