@@ -4,7 +4,7 @@ use Rattle.std.proofs.lemmas.List.{append_assoc, append-nil, length-take-le, map
 use Rattle.std.proofs.lemmas.Bool.{and_from, eq-eqb}
 use Rattle.model.specs.declared.cell.Cell.{Cell}
 use Rattle.model.specs.declared.cell.CellId.{CellId}
-use Rattle.description.specs.declared.parts.Activity.{Activity}
+use Rattle.records.specs.declared.activity.Activity.{Activity}
 use Rattle.description.specs.Descriptions.{no_activity}
 use Rattle.description.specs.Limits.{cell_count}
 use Rattle.reader.proofs.Pushing.{cell_count-push}

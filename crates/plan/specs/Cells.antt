@@ -2,7 +2,7 @@
 use Rattle.std.specs.Prelude.{ℕ, zero, suc, ◌+◌, Bool, true, false, ◌&&◌, List, [], ◌∷◌, ◌++◌, map, None, ◌==◌}
 use Rattle.model.specs.declared.cell.Cell.{Cell}
 use Rattle.model.specs.declared.cell.CellId.{CellId}
-use Rattle.description.specs.declared.parts.Activity.{Activity}
+use Rattle.records.specs.declared.activity.Activity.{Activity}
 
 -- the turns of an activity, from 0 on
 abbrev pub turn_ids : ℕ → ℕ → List CellId
