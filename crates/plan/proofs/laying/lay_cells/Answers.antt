@@ -1,7 +1,6 @@
 use Rattle.std.proofs.Common.{◌+◌, ◌++◌, map, get_or, sym, ap, ◌∙◌, arith}
-use Rattle.std.proofs.lemmas.List.{take_all}
 use Rattle.description.specs.Descriptions.{no_activity}
-use Rattle.plan.specs.Cells.{empty_cell, empty_cells, turn_ids}
+use Rattle.plan.specs.Cells.{empty_cell, turn_ids}
 use Rattle.plan.proofs.CellLists.{cells_more, count_more, count_of_some}
 use Rattle.plan.proofs.laying.lay_cells.Goals as goal
 
@@ -24,10 +23,3 @@ loop-i-preserved c =
       c.lay_turns.ensures.len ∙ ap (λ n. n + k) c.loop-i.invariant.1 ∙ sym (count_more xs i c.loop-i-test.true),
       c.lay_turns.ensures.capacity ∙ c.loop-i.invariant.2,
     )
-
-pub returns : goal.returns
-returns c =
-    record {
-      items = c.loop-i.invariant.0 ∙ ap empty_cells (take_all c.loop-i.i c.args.activities.now c.loop-i-test.false);
-      capacity = c.loop-i.invariant.2 ∙ c.clear.ensures.capacity;
-    }

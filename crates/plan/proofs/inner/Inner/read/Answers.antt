@@ -14,10 +14,6 @@ invariant_of-self-2 g c =
       laid = λ _. ap (λ l. same_ids l (cell_ids 0 activities)) items ∙ same_empty (cell_ids 0 activities);
     }
 
-pub returns : goal.returns
-returns g c =
-    record {
-      answer = c.read-answer.ensures;
-      meaning = meaning c.read-answer.result (g.K.Kind.relations c.args.kind.now) c.args.input.now (described c.read-answer.new.self) (All-from_get_or (λ b. b < 256) c.args.input.now 0 (λ i _. (c.type_inv.input i).fits)) c.read-answer.ensures;
-      cells = c.lay_cells.ensures.items ∙ ap empty_cells c.as_slice.ensures.value;
-    }
+pub returns-clause-meaning : goal.returns-clause-meaning
+returns-clause-meaning g c =
+    meaning c.read-answer.result (g.K.Kind.relations c.args.kind.now) c.args.input.now (described c.read-answer.new.self) (All-from_get_or (λ b. b < 256) c.args.input.now 0 (λ i _. (c.type_inv.input i).fits)) c.read-answer.ensures
