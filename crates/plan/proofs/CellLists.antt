@@ -1,23 +1,13 @@
 -- The cells of a plan, one turn and one activity after the other.
-use Rattle.std.proofs.Common.{◌≡◌, ℕ, zero, suc, ◌+◌, ◌<◌, ◌≤◌, true, List, [], ◌∷◌, ◌++◌, map, length, get_or, take, sym, refl, ap, ◌∙◌, add-one, arith}
-use Rattle.std.proofs.lemmas.List.{append_assoc, append-nil, length-take-le, map-append, map_push, take_more}
+use Rattle.std.proofs.Common.{◌≡◌, ℕ, zero, suc, ◌+◌, ◌<◌, ◌≤◌, true, List, [], ◌∷◌, ◌++◌, map, length, get_or, take, sym, refl, ap, ◌∙◌, arith}
+use Rattle.std.proofs.lemmas.List.{append_assoc, append-nil, length-take-le, map-append, take_more}
 use Rattle.std.proofs.lemmas.Bool.{and_from, eq-eqb}
-use Rattle.model.specs.declared.cell.Cell.{Cell}
 use Rattle.model.specs.declared.cell.CellId.{CellId}
 use Rattle.records.specs.declared.activity.Activity.{Activity}
 use Rattle.description.specs.Descriptions.{no_activity}
 use Rattle.description.specs.Limits.{cell_count}
 use Rattle.reader.proofs.Pushing.{cell_count-push}
 use Rattle.plan.specs.Cells.{turn_ids, cell_ids, same_ids, empty_cell, empty_cells}
-
--- one turn more
-pub turn_more : (before now_there : List Cell) (a t : ℕ) → now_there ≡ before ++ map empty_cell (turn_ids a t)
-    → now_there ++ empty_cell (record { activity = a; turn = t }) ∷ [] ≡ before ++ map empty_cell (turn_ids a (t + 1))
-turn_more before now_there a t e =
-    let x : CellId = record { activity = a; turn = t } in
-    ap (λ l. l ++ empty_cell x ∷ []) e
-    ∙ append_assoc before (map empty_cell (turn_ids a t)) (empty_cell x ∷ [])
-    ∙ ap (λ l. before ++ l) (sym (map_push empty_cell (turn_ids a t) x) ∙ ap (λ k. map empty_cell (turn_ids a k)) (sym (add-one t)))
 
 -- one activity more
 cell_ids-push : (n : ℕ) (xs : List Activity) (x : Activity) → cell_ids n (xs ++ x ∷ []) ≡ cell_ids n xs ++ turn_ids (n + length xs) x.turns
