@@ -5,8 +5,10 @@ mod beside;
 mod kind;
 mod laws;
 mod limits;
+mod single;
 
 pub use beside::Beside;
 pub use kind::{Kind, Stepping};
 pub use laws::laws_last;
 pub use limits::{STEP_MAX, demanded, repeated};
+pub use single::{Single, SingleStepping};
