@@ -1,7 +1,7 @@
 -- Beginnings of slots: the test of one, and the first from a start on.
 use Rattle.std.proofs.Common.{◌≡◌, ℕ, zero, suc, ◌+◌, ◌-◌, ◌*◌, ◌/◌, ◌%◌, ◌<◌, ◌≤◌, Bool, true, false, ◌&&◌, eqb, ltb, sym, refl, ap, ◌∙◌, ⊎_elim, mul-le-mul_right, mod-lt, mod-eq_of_lt, mul-div_cancel, arith}
 use native.Mathlib.Nat.{mul-add-mod_self_left, mod-add-div, mod-add-div', mul-mod_left}
-use Rattle.std.proofs.lemmas.Bool.{and_parts, and_from, or_cases, or_left, or_right, eqb-true, eq-eqb, ne_eqb, ltb-true, lt-ltb, cases_lt}
+use Rattle.std.proofs.lemmas.Bool.{and_parts, and_from, or_cases, or_left, or_right, eqb-true, eq-eqb, ltb-true, lt-ltb, cases_lt}
 use Rattle.arithmetic.specs.Division.{RoundedUp}
 use Rattle.buses.specs.Bus.{at_slot}
 use Rattle.buses.specs.Slots.{FirstSlot}
@@ -32,8 +32,8 @@ slot_of c (suc m) l s h =
     (or_cases (at_slot c m l s) (eqb (s % c) (m * l)) h)
 
 -- a place is the beginning of a slot exactly when the slot length divides it and the quotient is below m
-pub slot_test : (c m l s : ℕ) → 0 < l → (eqb (s % c % l) 0 && ltb (s % c / l) m) ≡ at_slot c m l s
-slot_test c m l s pos = same_tests (eqb (s % c % l) 0 && ltb (s % c / l) m) (at_slot c m l s) there back
+pub slot_test : (c m l s : ℕ) → 0 < l → at_slot c m l s ≡ (eqb (s % c % l) 0 && ltb (s % c / l) m)
+slot_test c m l s pos = same_tests (at_slot c m l s) (eqb (s % c % l) 0 && ltb (s % c / l) m) back there
   where
     there : (eqb (s % c % l) 0 && ltb (s % c / l) m) ≡ true → at_slot c m l s ≡ true
     there h =
@@ -47,9 +47,6 @@ slot_test c m l s pos = same_tests (eqb (s % c % l) 0 && ltb (s % c / l) m) (at_
         and_from (eqb (s % c % l) 0) (ltb (s % c / l) m)
         (eq-eqb (s % c % l) 0 (ap (λ w. w % l) z.1.1 ∙ mul-mod_left z.0 l))
         (ap (λ w. ltb (w / l) m) z.1.1 ∙ ap (λ q. ltb q m) (mul-div_cancel z.0 pos) ∙ lt-ltb z.0 m z.1.0)
-
-pub and_failed : (n : ℕ) (t : Bool) → (n ≡ 0 → ⊥) → eqb n 0 ≡ (eqb n 0 && t)
-and_failed n t ne = let e = ne_eqb n 0 ne in e ∙ sym (ap (λ b. b && t) e)
 
 -- a place u of a cycle, after n cycles
 in_cycle : (c n u : ℕ) → u < c → (c * n + u) % c ≡ u

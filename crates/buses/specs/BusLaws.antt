@@ -9,7 +9,7 @@ use Rattle.kinds.specs.Laws.{Laws}
 use Rattle.kinds.specs.Parts.{Lawful, takes, repeated}
 use Rattle.buses.specs.Slots.{FirstSlot, serves}
 use Rattle.kinds.specs.Smallest.{Smallest}
-use Rattle.kinds.proofs.PartLaws.{kind_laws, under}
+use Rattle.kinds.specs.PartLaws.{kind_laws, under}
 
 -- what a right bus has
 pub record Right (c m l : ℕ) : Type 0 where
@@ -42,7 +42,7 @@ later_slot c zero l p s e = refl
 later_slot c (suc m) l p s e =
     ap (λ b. b || (s + p) % c == m * l) (later_slot c m l p s e) ∙ ap (λ w. at_slot c m l s || w == m * l) (later_place c p s e)
 
-bus_lawful : Lawful bus_parts
+pub bus_lawful : Lawful bus_parts
 bus_lawful = record {
   time_limits = λ ns d right within carried. slot_limits (slice_index ns 0) (slice_index ns 1) (slice_index ns 2) (is_right (slice_index ns 0) (slice_index ns 1) (slice_index ns 2) (slice_index ns 3) right);
   grid_repeats = λ ns p s.

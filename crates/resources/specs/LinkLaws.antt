@@ -4,8 +4,9 @@ use Rattle.std.proofs.Common.{sym, subst, ⊎_elim, arith}
 use Rattle.std.proofs.lemmas.Bool.Decides.{nat_tests}
 use Rattle.arithmetic.specs.Division.{divided_up}
 use Rattle.kinds.specs.Laws.{Laws}
+use Rattle.kinds.specs.Parts.{Lawful}
 use Rattle.resources.specs.Link.{link, link_parts, link_time}
-use Rattle.kinds.proofs.PartLaws.{kind_laws}
+use Rattle.kinds.specs.PartLaws.{kind_laws}
 
 four : (code : ℕ) → 1 ≤ code → code ≤ 4 → (code ≡ 1) ⊎ ((code ≡ 2) ⊎ ((code ≡ 3) ⊎ (code ≡ 4)))
 four code low high = grind arith
@@ -27,12 +28,14 @@ time_limits code overhead d low high o l h =
     by_code (λ r. (1 ≤ divided_up (8 * d) r + overhead) × (divided_up (8 * d) r + overhead ≤ 1000000))
     (omega arith, omega arith) (omega arith, omega arith) (omega arith, omega arith) (omega arith, omega arith) code low high
 
+pub link_lawful : Lawful link_parts
+link_lawful = record {
+  time_limits = λ ns d right within carried.
+      time_limits (slice_index ns 0) (slice_index ns 1) d (grind (arith, nat_tests)) (grind (arith, nat_tests)) (grind (arith, nat_tests)) (grind (arith, nat_tests)) (grind (arith, nat_tests));
+  grid_repeats = λ ns p s. refl;
+  clash_symmetric = λ ns s a t b. refl;
+  clash_moves = λ ns p s a t b h. refl;
+}
+
 pub link_laws : Laws link
-link_laws =
-    kind_laws link_parts (record {
-      time_limits = λ ns d right within carried.
-          time_limits (slice_index ns 0) (slice_index ns 1) d (grind (arith, nat_tests)) (grind (arith, nat_tests)) (grind (arith, nat_tests)) (grind (arith, nat_tests)) (grind (arith, nat_tests));
-      grid_repeats = λ ns p s. refl;
-      clash_symmetric = λ ns s a t b. refl;
-      clash_moves = λ ns p s a t b h. refl;
-    })
+link_laws = kind_laws link_parts link_lawful
