@@ -20,13 +20,7 @@ pub record Right (c m l : ℕ) : Type 0 where
   pub holds : m * l ≤ c
 
 pub is_right : (c m l y : ℕ) → bus_right c m l y ≡ true → Right c m l
-is_right c m l y h = record {
-  cycle_low = grind (arith, nat_tests);
-  cycle_high = grind (arith, nat_tests);
-  slots_low = grind (arith, nat_tests);
-  length_low = grind (arith, nat_tests);
-  holds = grind (arith, nat_tests);
-}
+is_right c m l y h = grind (arith, nat_tests)
 
 slot_limits : (c m l : ℕ) → Right c m l → (1 ≤ l) × (l ≤ 1000000)
 slot_limits c m l r = (r.length_low, omega (arith, r.holds, r.cycle_high, le-mul_of_pos_right l r.slots_low, mul_comm l m))

@@ -1,18 +1,13 @@
 -- The laws of two kinds side by side follow from those of the two.
 use Rattle.std.specs.Prelude.{◌≡◌, ℕ, ◌+◌, ◌≤◌, Bool, true, false, cond, ◌||◌, List, Some, None, Option, refl}
 use Rattle.std.proofs.Common.{sym, subst}
-use Rattle.std.proofs.lemmas.Bool.{or_left, or_right}
+use Rattle.std.proofs.lemmas.Bool.{cond_both, or_left, or_right}
 use Rattle.kinds.specs.Beside.{beside}
 use Rattle.kinds.specs.Laws.{Laws, Outside}
 use Rattle.kinds.specs.Relations.{Relations}
 use Rattle.kinds.specs.Smallest.{Smallest}
 
--- what holds of both kinds' answers holds of the answer of the one that is asked
-chosen : {X : Type 0} (v : Bool) (x y : X) (P : X → Type 0) → P x → P y → P (cond v x y)
-chosen true x y P p q = p
-chosen false x y P p q = q
-
--- the same of the answers to two questions
+-- what holds of both kinds' answers to two questions holds of those of the one that is asked
 chosen_2 : {X Y : Type 0} (v : Bool) (x y : X) (z w : Y) (P : X → Y → Type 0) → P x z → P y w → P (cond v x y) (cond v z w)
 chosen_2 true x y z w P p q = p
 chosen_2 false x y z w P p q = q
@@ -24,9 +19,9 @@ module _ (a b : Relations) (la : Laws a) (lb : Laws b) where
 
   pub beside_laws : Laws (beside a b)
   beside_laws = record {
-    span_limits = λ k. chosen (a.known k) (a.span k) (b.span k) (λ f. (ns : List ℕ) (d e : ℕ) → f ns d ≡ Some e → (1 ≤ e) × (e ≤ 1000000)) (la.span_limits k) (lb.span_limits k);
-    repeats = λ k. chosen (a.known k) (a.admits k) (b.admits k) (λ f. (ns : List ℕ) (d p s : ℕ) → f ns d p (s + p) ≡ f ns d p s) (la.repeats k) (lb.repeats k);
-    symmetric = λ k. chosen (a.known k) (a.bars k) (b.bars k) (λ f. (ns : List ℕ) (s x t y : ℕ) → f ns s x t y ≡ f ns t y s x) (la.symmetric k) (lb.symmetric k);
+    span_limits = λ k. cond_both (a.known k) (a.span k) (b.span k) (λ f. (ns : List ℕ) (d e : ℕ) → f ns d ≡ Some e → (1 ≤ e) × (e ≤ 1000000)) (λ _. la.span_limits k) (λ _. lb.span_limits k);
+    repeats = λ k. cond_both (a.known k) (a.admits k) (b.admits k) (λ f. (ns : List ℕ) (d p s : ℕ) → f ns d p (s + p) ≡ f ns d p s) (λ _. la.repeats k) (λ _. lb.repeats k);
+    symmetric = λ k. cond_both (a.known k) (a.bars k) (b.bars k) (λ f. (ns : List ℕ) (s x t y : ℕ) → f ns s x t y ≡ f ns t y s x) (λ _. la.symmetric k) (λ _. lb.symmetric k);
     moves = λ k.
         chosen_2 (a.known k) (a.admits k) (b.admits k) (a.bars k) (b.bars k)
         (λ f g. (ns : List ℕ) (d p s x e q t y : ℕ) → f ns d p s ≡ true → f ns e q t ≡ true → g ns (s + p) x t y ≡ g ns s x t y) (la.moves k) (lb.moves k);
@@ -36,9 +31,9 @@ module _ (a b : Relations) (la : Laws a) (lb : Laws b) where
     unsound_bars_nothing = λ k.
         chosen_2 (a.known k) (a.sound k) (b.sound k) (a.bars k) (b.bars k) (λ f g. (ns : List ℕ) (s x t y : ℕ) → f ns ≡ false → g ns s x t y ≡ false)
         (la.unsound_bars_nothing k) (lb.unsound_bars_nothing k);
-    demand_limits = λ k. chosen (a.known k) (a.span k) (b.span k) (λ f. (ns : List ℕ) (d : ℕ) → Outside 1000000 d → f ns d ≡ None) (la.demand_limits k) (lb.demand_limits k);
+    demand_limits = λ k. cond_both (a.known k) (a.span k) (b.span k) (λ f. (ns : List ℕ) (d : ℕ) → Outside 1000000 d → f ns d ≡ None) (λ _. la.demand_limits k) (λ _. lb.demand_limits k);
     repeat_limits = λ k.
-        chosen (a.known k) (a.admits k) (b.admits k) (λ f. (ns : List ℕ) (d p s : ℕ) → Outside 64000000 p → f ns d p s ≡ false) (la.repeat_limits k) (lb.repeat_limits k);
+        cond_both (a.known k) (a.admits k) (b.admits k) (λ f. (ns : List ℕ) (d p s : ℕ) → Outside 64000000 p → f ns d p s ≡ false) (λ _. la.repeat_limits k) (λ _. lb.repeat_limits k);
     untaken_is_not_admitted = λ k.
         chosen_2 (a.known k) (a.span k) (b.span k) (a.admits k) (b.admits k) (λ f g. (ns : List ℕ) (d p s : ℕ) → f ns d ≡ None → g ns d p s ≡ false)
         (la.untaken_is_not_admitted k) (lb.untaken_is_not_admitted k);

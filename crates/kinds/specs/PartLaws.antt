@@ -1,24 +1,17 @@
 -- The laws of a kind follow from those of its parts.
-use Rattle.std.proofs.Common.{◌≡◌, ℕ, ◌≤◌, Bool, true, false, cond, ◌&&◌, eqb, leb, List, Some, None, refl, ap, subst, inl, inr, arith}
-use Rattle.std.proofs.lemmas.Bool.{and_parts, and_left, and_right, lt-leb}
+use Rattle.std.proofs.Common.{◌≡◌, ℕ, ◌≤◌, Bool, true, false, cond, ◌&&◌, eqb, leb, List, Some, None, refl, ap, subst, arith}
+use Rattle.std.proofs.lemmas.Bool.{and_parts, and_left, and_right, cond-false}
+use Rattle.std.proofs.lemmas.Bool.Decides.{nat_tests}
+use Rattle.std.proofs.lemmas.Option.{cond_some, none-some}
 use Rattle.kinds.specs.Laws.{Laws, Outside}
 use Rattle.kinds.specs.Parts.{Parts, Lawful, kind, sound, takes, demanded, repeated}
 
 -- within 1 to the most, as a test
 outside : (most n : ℕ) → Outside most n → (leb 1 n && leb n most) ≡ false
-outside most n (inl e) = and_left (leb 1 n) (leb n most) (lt-leb 1 n (omega arith))
-outside most n (inr lt) = and_right (leb 1 n) (leb n most) (lt-leb n most lt)
-
-some_is : (b : Bool) (v e : ℕ) → cond b (Some v) None ≡ Some e → (b ≡ true) × (v ≡ e)
-some_is true v e h = (refl, cc)
-some_is false v e h = let z : ◌≡◌ {A = ℕ} 0 1 = cc in absurd (omega arith)
+outside most n o = grind (arith, nat_tests)
 
 none_is : (b : Bool) (v : ℕ) → cond b (Some v) None ≡ None → b ≡ false
-none_is true v h = let z : ◌≡◌ {A = ℕ} 0 1 = cc in absurd (omega arith)
-none_is false v h = refl
-
-none_from : (b : Bool) (v : ℕ) → b ≡ false → cond b (Some v) None ≡ None
-none_from b v e = ap (λ c. cond c (Some v) None) e
+none_is b v h = grind (arith, none-some)
 
 pub under : (t x y : Bool) → (t ≡ true → x ≡ y) → (t && x) ≡ (t && y)
 under true x y h = h refl
@@ -27,7 +20,7 @@ under false x y h = refl
 module _ (x : Parts) (l : Lawful x) where
   span_limits : (k : ℕ) (ns : List ℕ) (d e : ℕ) → (kind x).span k ns d ≡ Some e → (1 ≤ e) × (e ≤ 1000000)
   span_limits k ns d e h =
-      let is = some_is (takes x k ns d) (x.time ns d) e h in
+      let is = cond_some (takes x k ns d) (x.time ns d) e h in
       let taken = and_parts (sound x k ns) (demanded d && x.carries ns d) is.0 in
       let right = and_parts (eqb k x.number) (x.right ns) taken.0 in
       let carried = and_parts (demanded d) (x.carries ns d) taken.1 in
@@ -44,10 +37,10 @@ module _ (x : Parts) (l : Lawful x) where
     symmetric = λ k ns s a t b. ap (λ c. sound x k ns && c) (l.clash_symmetric ns s a t b);
     moves = λ k ns d p s a e q t b h i. ap (λ c. sound x k ns && c) (l.clash_moves ns p s a t b (on_grid k ns d p s h));
     sound_is_known = λ k ns h. (and_parts (eqb k x.number) (x.right ns) h).0;
-    unsound_takes_nothing = λ k ns d h. none_from (takes x k ns d) (x.time ns d) (and_left (sound x k ns) (demanded d && x.carries ns d) h);
+    unsound_takes_nothing = λ k ns d h. cond-false (takes x k ns d) (Some (x.time ns d)) None (and_left (sound x k ns) (demanded d && x.carries ns d) h);
     unsound_bars_nothing = λ k ns s a t b h. and_left (sound x k ns) (x.clash ns s a t b) h;
     demand_limits = λ k ns d h.
-        none_from (takes x k ns d) (x.time ns d) (and_right (sound x k ns) (demanded d && x.carries ns d) (and_left (demanded d) (x.carries ns d) (outside 1000000 d h)));
+        cond-false (takes x k ns d) (Some (x.time ns d)) None (and_right (sound x k ns) (demanded d && x.carries ns d) (and_left (demanded d) (x.carries ns d) (outside 1000000 d h)));
     repeat_limits = λ k ns d p s h. and_right (takes x k ns d) (repeated p && x.grid ns p s) (and_left (repeated p) (x.grid ns p s) (outside 64000000 p h));
     untaken_is_not_admitted = λ k ns d p s h. and_left (takes x k ns d) (repeated p && x.grid ns p s) (none_is (takes x k ns d) (x.time ns d) h);
   }
