@@ -1,4 +1,4 @@
-// Kinds of resource: what one means, the laws that it keeps, and two side by side.
+// Kinds of resource: what one means, the laws that it keeps, one with a number of its own, and two side by side.
 #![tactic(auto)]
 
 mod beside;

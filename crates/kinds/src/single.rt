@@ -1,4 +1,4 @@
-// A kind with one number of its own, by what is particular to it. What all such kinds share stands here once.
+// A kind with one number of its own is given by six points; what all such kinds share stands here once, for all of them.
 ghost use Rattle.std.specs.Prelude.{◌≡◌, ◌≤◌, ℕ, true};
 ghost use Rattle.kinds.specs.Parts.{Lawful, Parts, demanded as demanded?, kind as kind_of, repeated as repeated?, takes as takes?};
 ghost use Rattle.kinds.specs.PartLaws.{kind_laws};
@@ -19,17 +19,18 @@ pub trait Single {
     fn right(&self, numbers: [u32; 4]) -> bool
         ensures { result ≡ parts.right numbers };
 
-    // Whether a demand of 1 to 1,000,000 is taken, and the time that it then occupies.
+    // Whether a demand of 1 to 1,000,000 is taken.
     fn carries(&self, numbers: [u32; 4], demand: u32) -> bool
         requires { parts.right numbers ≡ true }
         ensures { result ≡ parts.carries numbers demand };
 
+    // The time that such a demand occupies.
     fn time(&self, numbers: [u32; 4], demand: u32) -> u32
         requires right { parts.right numbers ≡ true }
         requires demanded { demanded? demand ≡ true }
         ensures { result ≡ parts.time numbers demand };
 
-    // Whether it may begin at a start, with a repeat of 1 to 64,000,000.
+    // Whether a demand with a repeat of 1 to 64,000,000 may begin at a start.
     fn grid(&self, numbers: [u32; 4], repeat: u32, start: u64) -> bool
         requires { parts.right numbers ≡ true }
         ensures { result ≡ parts.grid numbers repeat start };
@@ -44,6 +45,7 @@ pub trait Single {
     ghost lawful: { Lawful parts };
 }
 
+// Such a kind that can find its starts is a stepping one.
 pub trait SingleStepping: Single {
     // The smallest start on the grid from a given one on; none where there is none.
     fn first_start(&self, numbers: [u32; 4], repeat: u32, from: u64) -> Option<u64>
