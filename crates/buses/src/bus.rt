@@ -46,7 +46,7 @@ impl Cycle {
         ensures { result ≡ at_slot self.now.cycle self.now.slots self.now.length start }
     {
         let place = start % self.cycle;
-        place % self.length == 0 && place / self.length < self.slots
+        place.is_multiple_of(self.length) && place / self.length < self.slots
     }
 
     // The slot of its cycle that a start lies in.
