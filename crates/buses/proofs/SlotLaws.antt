@@ -2,18 +2,15 @@
 use Rattle.std.proofs.Common.{◌≡◌, ℕ, zero, suc, ◌+◌, ◌-◌, ◌*◌, ◌/◌, ◌%◌, ◌<◌, ◌≤◌, true, ◌&&◌, eqb, ltb, ap, ◌∙◌, ⊎_elim, mul-le-mul_right, mod-lt, mod-eq_of_lt, mul-div_cancel, arith}
 use native.Mathlib.Nat.{mul-add-mod_self_left, mod-add-div, mod-add-div', mul-mod_left}
 use Rattle.std.specs.Cmp.{both_ways}
-use Rattle.std.proofs.lemmas.Bool.{false_from_ne_true, and_parts, and_from, or_cases, or_left, or_right, eqb-true, eq-eqb, ltb-true, lt-ltb, cases_lt}
+use Rattle.std.proofs.lemmas.Bool.Decides.{nat_tests}
+use Rattle.std.proofs.lemmas.Bool.{false_from_ne_true, and_from, or_cases, eqb-true, eq-eqb, lt-ltb}
 use Rattle.arithmetic.specs.Division.{RoundedUp}
 use Rattle.buses.specs.Bus.{at_slot}
 use Rattle.buses.specs.Slots.{FirstSlot}
 
 pub slot_from : (c m l s n : ℕ) → n < m → s % c ≡ n * l → at_slot c m l s ≡ true
 slot_from c zero l s n lt e = absurd (omega arith)
-slot_from c (suc m) l s n lt e =
-    ⊎_elim
-    (λ (less : n < m). or_left (at_slot c m l s) (eqb (s % c) (m * l)) (slot_from c m l s n less e))
-    (λ (ge : m ≤ n). let is : n ≡ m = omega arith in or_right (at_slot c m l s) (eqb (s % c) (m * l)) (eq-eqb (s % c) (m * l) (e ∙ ap (λ k. k * l) is)))
-    (cases_lt n m)
+slot_from c (suc m) l s n lt e = grind (arith, nat_tests, slot_from c m l s n)
 
 pub slot_of : (c m l s : ℕ) → at_slot c m l s ≡ true → (n : ℕ) × ((n < m) × (s % c ≡ n * l))
 slot_of c zero l s h = let z : ◌≡◌ {A = ℕ} 0 1 = cc in absurd (omega arith)
@@ -28,10 +25,7 @@ pub slot_test : (c m l s : ℕ) → 0 < l → at_slot c m l s ≡ (eqb (s % c % 
 slot_test c m l s pos = both_ways (at_slot c m l s) (eqb (s % c % l) 0 && ltb (s % c / l) m) back there
   where
     there : (eqb (s % c % l) 0 && ltb (s % c / l) m) ≡ true → at_slot c m l s ≡ true
-    there h =
-        let parts = and_parts (eqb (s % c % l) 0) (ltb (s % c / l) m) h in
-        let none : s % c % l ≡ 0 = eqb-true (s % c % l) 0 parts.0 in
-        slot_from c m l s (s % c / l) (ltb-true (s % c / l) m parts.1) (omega (arith, mod-add-div' (s % c) l))
+    there h = slot_from c m l s (s % c / l) (grind (arith, nat_tests)) (grind (arith, nat_tests, mod-add-div' (s % c) l))
 
     back : at_slot c m l s ≡ true → (eqb (s % c % l) 0 && ltb (s % c / l) m) ≡ true
     back h =
