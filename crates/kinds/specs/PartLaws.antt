@@ -1,5 +1,5 @@
 -- The laws of a kind follow from those of its parts.
-use Rattle.std.proofs.Common.{◌≡◌, ℕ, ◌≤◌, Bool, true, false, cond, ◌&&◌, leb, List, Some, None, refl, ap, arith}
+use Rattle.std.proofs.Common.{◌≡◌, ℕ, ◌≤◌, Bool, true, false, cond, ◌&&◌, leb, List, Some, None, ap, arith}
 use Rattle.std.proofs.lemmas.Bool.Decides.{nat_tests}
 use Rattle.std.proofs.lemmas.Option.{cond_some, none-some}
 use Rattle.kinds.specs.Laws.{Laws, Outside}
@@ -11,10 +11,6 @@ outside most n o = grind (arith, nat_tests)
 
 none_is : (b : Bool) (v : ℕ) → cond b (Some v) None ≡ None → b ≡ false
 none_is b v h = grind (arith, none-some)
-
-pub under : (t x y : Bool) → (t ≡ true → x ≡ y) → (t && x) ≡ (t && y)
-under true x y h = h refl
-under false x y h = refl
 
 module _ (x : Parts) (l : Lawful x) where
   span_limits : (k : ℕ) (ns : List ℕ) (d e : ℕ) → (kind x).span k ns d ≡ Some e → (1 ≤ e) × (e ≤ 1000000)
