@@ -1,27 +1,16 @@
 -- Beginnings of slots: the test of one, and the first from a start on.
-use Rattle.std.proofs.Common.{◌≡◌, ℕ, zero, suc, ◌+◌, ◌-◌, ◌*◌, ◌/◌, ◌%◌, ◌<◌, ◌≤◌, Bool, true, false, ◌&&◌, eqb, ltb, sym, refl, ap, ◌∙◌, ⊎_elim, mul-le-mul_right, mod-lt, mod-eq_of_lt, mul-div_cancel, arith}
+use Rattle.std.proofs.Common.{◌≡◌, ℕ, zero, suc, ◌+◌, ◌-◌, ◌*◌, ◌/◌, ◌%◌, ◌<◌, ◌≤◌, true, ◌&&◌, eqb, ltb, ap, ◌∙◌, ⊎_elim, mul-le-mul_right, mod-lt, mod-eq_of_lt, mul-div_cancel, arith}
 use native.Mathlib.Nat.{mul-add-mod_self_left, mod-add-div, mod-add-div', mul-mod_left}
-use Rattle.std.proofs.lemmas.Bool.{and_parts, and_from, or_cases, or_left, or_right, eqb-true, eq-eqb, ne_eqb, ltb-true, lt-ltb, cases_lt}
+use Rattle.std.specs.Cmp.{both_ways}
+use Rattle.std.proofs.lemmas.Bool.Decides.{nat_tests}
+use Rattle.std.proofs.lemmas.Bool.{false_from_ne_true, and_from, or_cases, eqb-true, eq-eqb, lt-ltb}
 use Rattle.arithmetic.specs.Division.{RoundedUp}
 use Rattle.buses.specs.Bus.{at_slot}
 use Rattle.buses.specs.Slots.{FirstSlot}
 
-same_tests : (a b : Bool) → (a ≡ true → b ≡ true) → (b ≡ true → a ≡ true) → a ≡ b
-same_tests true b f g = sym (f refl)
-same_tests false true f g = g refl
-same_tests false false f g = refl
-
-refuted : (b : Bool) → (b ≡ true → ⊥) → b ≡ false
-refuted true h = absurd (h refl)
-refuted false h = refl
-
 pub slot_from : (c m l s n : ℕ) → n < m → s % c ≡ n * l → at_slot c m l s ≡ true
 slot_from c zero l s n lt e = absurd (omega arith)
-slot_from c (suc m) l s n lt e =
-    ⊎_elim
-    (λ (less : n < m). or_left (at_slot c m l s) (eqb (s % c) (m * l)) (slot_from c m l s n less e))
-    (λ (ge : m ≤ n). let is : n ≡ m = omega arith in or_right (at_slot c m l s) (eqb (s % c) (m * l)) (eq-eqb (s % c) (m * l) (e ∙ ap (λ k. k * l) is)))
-    (cases_lt n m)
+slot_from c (suc m) l s n lt e = grind (arith, nat_tests, slot_from c m l s n)
 
 pub slot_of : (c m l s : ℕ) → at_slot c m l s ≡ true → (n : ℕ) × ((n < m) × (s % c ≡ n * l))
 slot_of c zero l s h = let z : ◌≡◌ {A = ℕ} 0 1 = cc in absurd (omega arith)
@@ -32,14 +21,11 @@ slot_of c (suc m) l s h =
     (or_cases (at_slot c m l s) (eqb (s % c) (m * l)) h)
 
 -- a place is the beginning of a slot exactly when the slot length divides it and the quotient is below m
-pub slot_test : (c m l s : ℕ) → 0 < l → (eqb (s % c % l) 0 && ltb (s % c / l) m) ≡ at_slot c m l s
-slot_test c m l s pos = same_tests (eqb (s % c % l) 0 && ltb (s % c / l) m) (at_slot c m l s) there back
+pub slot_test : (c m l s : ℕ) → 0 < l → at_slot c m l s ≡ (eqb (s % c % l) 0 && ltb (s % c / l) m)
+slot_test c m l s pos = both_ways (at_slot c m l s) (eqb (s % c % l) 0 && ltb (s % c / l) m) back there
   where
     there : (eqb (s % c % l) 0 && ltb (s % c / l) m) ≡ true → at_slot c m l s ≡ true
-    there h =
-        let parts = and_parts (eqb (s % c % l) 0) (ltb (s % c / l) m) h in
-        let none : s % c % l ≡ 0 = eqb-true (s % c % l) 0 parts.0 in
-        slot_from c m l s (s % c / l) (ltb-true (s % c / l) m parts.1) (omega (arith, mod-add-div' (s % c) l))
+    there h = slot_from c m l s (s % c / l) (grind (arith, nat_tests)) (grind (arith, nat_tests, mod-add-div' (s % c) l))
 
     back : at_slot c m l s ≡ true → (eqb (s % c % l) 0 && ltb (s % c / l) m) ≡ true
     back h =
@@ -47,9 +33,6 @@ slot_test c m l s pos = same_tests (eqb (s % c % l) 0 && ltb (s % c / l) m) (at_
         and_from (eqb (s % c % l) 0) (ltb (s % c / l) m)
         (eq-eqb (s % c % l) 0 (ap (λ w. w % l) z.1.1 ∙ mul-mod_left z.0 l))
         (ap (λ w. ltb (w / l) m) z.1.1 ∙ ap (λ q. ltb q m) (mul-div_cancel z.0 pos) ∙ lt-ltb z.0 m z.1.0)
-
-pub and_failed : (n : ℕ) (t : Bool) → (n ≡ 0 → ⊥) → eqb n 0 ≡ (eqb n 0 && t)
-and_failed n t ne = let e = ne_eqb n 0 ne in e ∙ sym (ap (λ b. b && t) e)
 
 -- a place u of a cycle, after n cycles
 in_cycle : (c n u : ℕ) → u < c → (c * n + u) % c ≡ u
@@ -79,7 +62,7 @@ module _ (c m l from : ℕ) (full : m * l ≤ c) (some : 0 < m) (pos : 0 < l) wh
     begins =
         slot_from c m l (from - from % c + q * l) q lt
         (ap (λ v. (v + q * l) % c) (let e : from - from % c ≡ c * (from / c) = omega (arith, from_is) in e) ∙ in_cycle c (from / c) (q * l) (omega (arith, mul-le-mul_right l lt)));
-    none_before = λ s low high. refuted (at_slot c m l s) (λ h.
+    none_before = λ s low high. false_from_ne_true (at_slot c m l s) (λ h.
         let z = slot_after q s up low (omega (arith, from_is, mul-le-mul_right l lt)) h in
         omega (arith, from_is, z.1.1, mul-le-mul_right l z.1.2));
   }
@@ -90,7 +73,7 @@ module _ (c m l from : ℕ) (full : m * l ≤ c) (some : 0 < m) (pos : 0 < l) wh
     begins =
         slot_from c m l (from - from % c + c) 0 some
         (ap (λ v. v % c) (let e : from - from % c + c ≡ c * (from / c + 1) + 0 = omega (arith, from_is) in e) ∙ in_cycle c (from / c + 1) 0 cycle_positive ∙ omega arith);
-    none_before = λ s low high. refuted (at_slot c m l s) (λ h.
+    none_before = λ s low high. false_from_ne_true (at_slot c m l s) (λ h.
         let z = slot_after q s up low (omega (arith, from_is)) h in
         omega (arith, z.1.0, z.1.2));
   }

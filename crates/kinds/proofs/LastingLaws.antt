@@ -1,13 +1,13 @@
 -- What the laws give after any number of repeats.
-use Rattle.std.proofs.Common.{◌≡◌, ℕ, zero, suc, ◌+◌, ◌*◌, true, List, sym, ap, ◌∙◌, add-zero, add_assoc, suc-mul, zero-mul}
+use Rattle.std.proofs.Common.{◌≡◌, ℕ, zero, suc, ◌+◌, ◌*◌, true, List, ap, ◌∙◌, arith}
 use Rattle.kinds.specs.Laws.{Laws, Lasting}
 use Rattle.kinds.specs.Relations.{Relations}
 
 one_more : (s m p : ℕ) → s + suc m * p ≡ (s + m * p) + p
-one_more s m p = ap (λ n. s + n) (suc-mul m p) ∙ sym (add_assoc s (m * p) p)
+one_more s m p = omega arith
 
 none_yet : (s p : ℕ) → s + 0 * p ≡ s
-none_yet s p = ap (λ n. s + n) (zero-mul p) ∙ add-zero s
+none_yet s p = omega arith
 
 module _ (r : Relations) (l : Laws r) where
   admitted : (k : ℕ) (ns : List ℕ) (d p s m : ℕ) → r.admits k ns d p (s + m * p) ≡ r.admits k ns d p s

@@ -1,2 +1,1 @@
 pub mod LastingLaws
-pub mod PartLaws

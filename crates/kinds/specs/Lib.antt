@@ -4,3 +4,4 @@ pub mod Parts
 pub mod Relations
 pub mod Smallest
 pub mod BesideLaws
+pub mod PartLaws

@@ -1,5 +1,5 @@
 // Two kinds side by side: the first answers for the numbers that it knows, the second for the rest.
-ghost use Rattle.std.specs.Prelude.{◌≡◌};
+ghost use Rattle.std.specs.Prelude.{◌≡◌, MatchBool};
 ghost use Rattle.kinds.specs.Beside.{beside};
 ghost use Rattle.kinds.specs.Smallest.{Smallest};
 ghost use Rattle.kinds.specs.BesideLaws.{beside_laws};
@@ -18,6 +18,24 @@ impl<A: Kind, B: Kind> Beside<A, B> {
     {
         Beside { first, second }
     }
+
+    // Asks the one that answers for the number.
+    fn ask<R, F: FnOnce() -> R + Drop, G: FnOnce() -> R + Drop>(
+        &self,
+        kind: u16,
+        first: F,
+        second: G,
+    ) -> R
+        requires first { F.pre first }
+        requires second { G.pre second }
+        ensures { MatchBool ((A.Kind.relations self.now.first).known kind) (F.post first result) (G.post second result) }
+    {
+        if self.first.known(kind) {
+            first()
+        } else {
+            second()
+        }
+    }
 }
 
 impl<A: Kind, B: Kind> Kind for Beside<A, B> {
@@ -30,27 +48,27 @@ impl<A: Kind, B: Kind> Kind for Beside<A, B> {
     }
 
     fn sound(&self, kind: u16, numbers: [u32; 4]) -> bool {
-        if self.first.known(kind) {
-            self.first.sound(kind, numbers)
-        } else {
-            self.second.sound(kind, numbers)
-        }
+        self.ask(
+            kind,
+            || self.first.sound(kind, numbers),
+            || self.second.sound(kind, numbers),
+        )
     }
 
     fn span(&self, kind: u16, numbers: [u32; 4], demand: u32) -> Option<u32> {
-        if self.first.known(kind) {
-            self.first.span(kind, numbers, demand)
-        } else {
-            self.second.span(kind, numbers, demand)
-        }
+        self.ask(
+            kind,
+            || self.first.span(kind, numbers, demand),
+            || self.second.span(kind, numbers, demand),
+        )
     }
 
     fn admits(&self, kind: u16, numbers: [u32; 4], demand: u32, repeat: u32, start: u64) -> bool {
-        if self.first.known(kind) {
-            self.first.admits(kind, numbers, demand, repeat, start)
-        } else {
-            self.second.admits(kind, numbers, demand, repeat, start)
-        }
+        self.ask(
+            kind,
+            || self.first.admits(kind, numbers, demand, repeat, start),
+            || self.second.admits(kind, numbers, demand, repeat, start),
+        )
     }
 
     fn bars(
@@ -62,31 +80,11 @@ impl<A: Kind, B: Kind> Kind for Beside<A, B> {
         other: u64,
         rival: u8,
     ) -> bool {
-        if self.first.known(kind) {
-            self.first.bars(kind, numbers, start, sender, other, rival)
-        } else {
-            self.second.bars(kind, numbers, start, sender, other, rival)
-        }
-    }
-}
-
-impl<A: Stepping, B: Stepping> Beside<A, B> {
-    // The step of the kind that knows the number.
-    fn next_start(
-        &self,
-        kind: u16,
-        numbers: [u32; 4],
-        demand: u32,
-        repeat: u32,
-        from: u64,
-    ) -> Option<u64>
-        ensures { Smallest ((beside (A.Kind.relations self.now.first) (B.Kind.relations self.now.second)).admits kind numbers demand repeat) from result }
-    {
-        if self.first.known(kind) {
-            self.first.step(kind, numbers, demand, repeat, from)
-        } else {
-            self.second.step(kind, numbers, demand, repeat, from)
-        }
+        self.ask(
+            kind,
+            || self.first.bars(kind, numbers, start, sender, other, rival),
+            || self.second.bars(kind, numbers, start, sender, other, rival),
+        )
     }
 }
 
@@ -99,6 +97,10 @@ impl<A: Stepping, B: Stepping> Stepping for Beside<A, B> {
         repeat: u32,
         from: u64,
     ) -> Option<u64> {
-        self.next_start(kind, numbers, demand, repeat, from)
+        self.ask(
+            kind,
+            || self.first.step(kind, numbers, demand, repeat, from),
+            || self.second.step(kind, numbers, demand, repeat, from),
+        )
     }
 }

@@ -9,12 +9,12 @@ pub const STEP_MAX: u64 = 4_000_000_000;
 pub fn demanded(demand: u32) -> bool
     ensures { result ≡ demanded? demand }
 {
-    1 <= demand && demand <= 1_000_000
+    (1..=1_000_000).contains(&demand)
 }
 
 // Whether a repeat is 1 to 64,000,000.
 pub fn repeated(repeat: u32) -> bool
     ensures { result ≡ repeated? repeat }
 {
-    1 <= repeat && repeat <= 64_000_000
+    (1..=64_000_000).contains(&repeat)
 }

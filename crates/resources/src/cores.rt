@@ -1,63 +1,48 @@
 // Kind 1: a core.
-ghost use Rattle.resources.specs.Core.{core};
-ghost use Rattle.resources.specs.CoreLaws.{core_laws};
+ghost use Rattle.std.specs.Prelude.{refl};
+ghost use Rattle.resources.specs.Core.{core_parts};
+ghost use Rattle.resources.specs.CoreLaws.{core_lawful};
 
-use kinds::{Kind, STEP_MAX, Stepping, demanded, repeated};
+use kinds::{Single, SingleStepping};
 
 #[derive(Clone, Copy)]
 pub struct Core;
 
-impl Kind for Core {
-    ghost relations = { λ _. core };
+// Kept: core and link answer alike in three points and in the step; a trait between them has more lines than these constants.
+impl Single for Core {
+    ghost parts = { core_parts };
 
-    ghost lawful = { λ k. core_laws };
+    ghost NUMBER = { 1 };
 
-    fn known(&self, kind: u16) -> bool {
-        kind == 1
+    ghost numbered = { refl };
+
+    ghost lawful = { core_lawful };
+
+    const NUMBER: u16 = 1;
+
+    fn right(&self, numbers: [u32; 4]) -> bool {
+        matches!(numbers, [0, 0, 0, 0])
     }
 
-    fn sound(&self, kind: u16, numbers: [u32; 4]) -> bool {
-        self.known(kind) && numbers[0] == 0 && numbers[1] == 0 && numbers[2] == 0 && numbers[3] == 0
+    fn carries(&self, _numbers: [u32; 4], _demand: u32) -> bool {
+        true
     }
 
-    fn span(&self, kind: u16, numbers: [u32; 4], demand: u32) -> Option<u32> {
-        if self.sound(kind, numbers) && demanded(demand) {
-            Some(demand)
-        } else {
-            None
-        }
+    fn time(&self, _numbers: [u32; 4], demand: u32) -> u32 {
+        demand
     }
 
-    fn admits(&self, kind: u16, numbers: [u32; 4], demand: u32, repeat: u32, _start: u64) -> bool {
-        self.sound(kind, numbers) && demanded(demand) && repeated(repeat)
+    fn grid(&self, _numbers: [u32; 4], _repeat: u32, _start: u64) -> bool {
+        true
     }
 
-    fn bars(
-        &self,
-        _kind: u16,
-        _numbers: [u32; 4],
-        _start: u64,
-        _sender: u8,
-        _other: u64,
-        _rival: u8,
-    ) -> bool {
+    fn clash(&self, _numbers: [u32; 4], _start: u64, _sender: u8, _other: u64, _rival: u8) -> bool {
         false
     }
 }
 
-impl Stepping for Core {
-    fn step(
-        &self,
-        kind: u16,
-        numbers: [u32; 4],
-        demand: u32,
-        repeat: u32,
-        from: u64,
-    ) -> Option<u64> {
-        if from <= STEP_MAX && self.admits(kind, numbers, demand, repeat, from) {
-            Some(from)
-        } else {
-            None
-        }
+impl SingleStepping for Core {
+    fn first_start(&self, _numbers: [u32; 4], _repeat: u32, from: u64) -> Option<u64> {
+        Some(from)
     }
 }
