@@ -8,7 +8,7 @@ use records::{Activity, ApplicationField, Edge, Header, Point, Resource};
 
 impl FieldKind {
     // The kind of field that a tag begins after a field of this kind; none where the tag is not allowed there.
-    pub fn next(self, tag: u8) -> Option<Self>
+    pub fn next(self, tag: u8) -> Option<FieldKind>
         ensures { result ≡ next_kind self tag }
     {
         match (self, tag) {
