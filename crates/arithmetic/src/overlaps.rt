@@ -18,7 +18,7 @@ pub fn overlap(a: &Entry, b: &Entry) -> Option<OccurrencePair>
     if apart(a, b) { None } else { Some(meet(a, b)) }
 }
 
-// Two different occurrences of `a` that overlap; none exactly when no two do, since none lasts until the next begins.
+// Two different occurrences of `a` that overlap; none exactly when no two do. If any two do, each does with the next.
 pub fn overlaps_itself(a: &Entry) -> Option<OccurrencePair>
     ensures { MatchOption result (NeverItself (endless a.now)) (OverlappingItself (endless a.now)) }
 {
