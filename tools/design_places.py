@@ -58,7 +58,6 @@ def functions(path, text):
 def shape(text):
     """The text without its names, numbers and layout."""
     text = re.sub(r"//.*", "", text)
-    words = {}
     keep = {"fn", "if", "else", "match", "for", "in", "while", "return", "let", "mut", "self", "Some", "None", "Ok", "Err", "true", "false", "pub", "as"}
     return re.sub(r"\w+", lambda w: w[0] if w[0] in keep else "n" if w[0][0].isdigit() else "w", re.sub(r"\s+|,(?=\s*[})\]])", "", text))
 

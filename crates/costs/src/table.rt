@@ -25,6 +25,7 @@ impl Model for CostTable {
 
 impl CostTable {
     // The table of these points; none where there are fewer than 2.
+    // Kept: no `TryFrom`, whose error would be a type of one value; an `Option` says as much.
     pub fn of(points: Points) -> Option<CostTable>
         ensures { MatchOption result (length points < 2) (λ t. t ≡ points) }
     {

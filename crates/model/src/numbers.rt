@@ -1,5 +1,6 @@
 // A refusal as eight numbers: number, place, cell as activity and turn, other cell likewise, two occurrences. What does not apply
 // is 0.
+// Kept: a table in place of numbers at the variants: a discriminant could hold a rule's number, but none of those beside fields.
 ghost use Rattle.std.specs.Prelude.{◌≡◌};
 ghost use Rattle.model.specs.Refusals.{clash_numbers, numbers_of, pair_number, row};
 
@@ -18,8 +19,8 @@ fn plain(number: u64, place: u64, cell: CellId, first: u64) -> [u64; 8]
     [
         number,
         place,
-        cell.activity as u64,
-        cell.turn as u64,
+        u64::from(cell.activity),
+        u64::from(cell.turn),
         0,
         0,
         first,
@@ -49,10 +50,10 @@ impl Clash {
         [
             self.rule.number(),
             self.place,
-            self.cell.activity as u64,
-            self.cell.turn as u64,
-            self.other.activity as u64,
-            self.other.turn as u64,
+            u64::from(self.cell.activity),
+            u64::from(self.cell.turn),
+            u64::from(self.other.activity),
+            u64::from(self.other.turn),
             self.first,
             self.second,
         ]
@@ -75,8 +76,8 @@ impl Refusal {
             Refusal::UnknownCell(place, cell) => plain(9, place, cell, 0),
             Refusal::AlreadyPlaced(place, cell) => plain(10, place, cell, 0),
             Refusal::NotPlaced(cell) => plain(11, 0, cell, 0),
-            Refusal::Window(place, cell) => plain(12, place, cell, cell.turn as u64),
-            Refusal::Grid(place, cell) => plain(13, place, cell, cell.turn as u64),
+            Refusal::Window(place, cell) => plain(12, place, cell, u64::from(cell.turn)),
+            Refusal::Grid(place, cell) => plain(13, place, cell, u64::from(cell.turn)),
             Refusal::Rule(clash) => clash.numbers(),
             Refusal::NoOffset(cell) => plain(20, 0, cell, 0),
             Refusal::Unfinished(cell) => plain(21, 0, cell, 0),

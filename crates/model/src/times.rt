@@ -29,7 +29,7 @@ impl CellId {
         ensures { result.micros ≡ self.turn * period + offset.micros }
     {
         Start {
-            micros: self.turn as u64 * period as u64 + offset.micros as u64,
+            micros: u64::from(self.turn) * u64::from(period) + u64::from(offset.micros),
         }
     }
 }

@@ -26,6 +26,7 @@ impl Ranked for Ready {
     }
 }
 
+// Kept: `starts` is a flag, since false ranks before true as an end does before a start.
 // By time; at one time an end before a start, then the lowest activity, then the lowest turn.
 #[derive(Clone, Copy, PartialEq, Eq, PartialOrd, Ord, Debug)]
 pub struct Event {

@@ -11,9 +11,7 @@ use description::Activity;
 fn has_activity(application: usize, activities: &[Activity]) -> bool
     ensures { result ≡ has_activity application activities.now }
 {
-    activities
-        .iter()
-        .any(|activity| activity.application as usize == application)
+    activities.iter().any(|activity| usize::from(activity.application) == application)
 }
 
 impl Description {

@@ -24,9 +24,9 @@ impl Description {
     pub(crate) fn activity_right(&self, x: Activity) -> bool
         ensures { result ≡ activity_right (described self.now) x }
     {
-        let application = x.application as usize;
+        let application = usize::from(x.application);
         application < self.applications.len()
-            && (x.resource as usize) < self.resources.len()
+            && usize::from(x.resource) < self.resources.len()
             && (1..=64).contains(&x.turns)
             && (1..=1_000_000).contains(&x.demand)
             && x.jitter < self.applications[application].period
@@ -37,7 +37,7 @@ impl Description {
         requires { x.resource < vec_len self.now.resources }
         ensures { result ≡ demand_taken (K.Kind.relations kind.now) (described self.now) x }
     {
-        let resource = self.resources[x.resource as usize];
+        let resource = self.resources[usize::from(x.resource)];
         kind.span(resource.kind, resource.numbers, x.demand)
             .is_some()
     }
@@ -58,7 +58,7 @@ impl Description {
         if !self.demand_taken(field.kind, x) {
             return Err(Refusal::DemandNotTaken(field.place()));
         }
-        if self.cells + x.turns as usize > 2048 {
+        if self.cells + usize::from(x.turns) > 2048 {
             return Err(Refusal::WrongCount(field.place()));
         }
         Ok(())
@@ -68,8 +68,8 @@ impl Description {
     pub(crate) fn edge_right(&self, x: Edge) -> bool
         ensures { result ≡ edge_right (described self.now) x }
     {
-        let from = x.from as usize;
-        let to = x.to as usize;
+        let from = usize::from(x.from);
+        let to = usize::from(x.to);
         from < to
             && to < self.activities.len()
             && self.activities[from].application == self.activities[to].application

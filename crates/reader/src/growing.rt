@@ -1,4 +1,5 @@
 // One part more.
+// Kept: four functions, since each list has limits of its own that its part must meet.
 ghost use Rattle.std.specs.Prelude.{◌≡◌, ◌+◌, ◌<◌, ◌≤◌, true, [], ◌∷◌, ◌++◌, vec_len};
 ghost use Rattle.description.specs.Limits.{activity_right, edge_right};
 ghost use Rattle.description.specs.Reader.{with_applications};
@@ -32,7 +33,7 @@ impl Description {
         ensures { described self.new ≡ with_activity (described self.old) x }
     {
         self.activities.push_reserved(x);
-        self.cells += x.turns as usize;
+        self.cells += usize::from(x.turns);
     }
 
     pub(crate) fn add_edge(&mut self, x: Edge)

@@ -40,6 +40,7 @@ impl Description {
         let Ok(tag) = tag_at(field.input, field.at) else {
             return Err(Refusal::EndsEarly(field.place()));
         };
+        // Kept: a match, since each kind of field is taken under another contract; the compiler sees that none is forgotten.
         match stage.last().next(tag) {
             Some(FieldKind::Resource) => self.take_resource(stage, field),
             Some(FieldKind::Application) => self.take_application(stage, field),

@@ -21,7 +21,7 @@ invariant_of-self c =
     ap (λ n. n + x.turns) d.counted ∙ sym (cell_count-push (vec_items d.activities) x) ∙ ap cell_count (sym c.push_reserved.ensures.items) in record {
       room = (omega arith, omega arith, omega arith, omega arith);
       few = (omega arith, omega arith, omega arith, omega arith);
-      counted = counted;
+      counted = ap (λ n. d.cells + n) c.from.ensures ∙ counted;
       cells_few = omega arith;
       activities_known =
           each_push P (vec_items d.activities) (vec_items v) x _ (vec_len d.activities) (vec_len v) d.activities.ok.0 c.push_reserved.ensures.len c.push_reserved.ensures.items d.activities_known new;
