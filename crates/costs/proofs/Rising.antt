@@ -1,11 +1,11 @@
 -- One point more.
-use Rattle.std.proofs.Common.{◌≡◌, ℕ, ◌+◌, ◌-◌, ◌<◌, ◌&&◌, ltb, List, [], ◌∷◌, ◌++◌, length, get_or, take, drop, set, replicate, sym, refl, ap, ◌∙◌, arith}
+use Rattle.std.proofs.Common.{◌≡◌, ℕ, ◌+◌, ◌-◌, ◌<◌, ◌&&◌, ltb, List, [], ◌∷◌, ◌++◌, length, get_or, take, sym, refl, ap, ◌∙◌, arith}
 use Rattle.std.proofs.Math.Bool.{and-true, and_assoc}
 use Rattle.std.proofs.Math.Seq.{take-length}
-use Rattle.std.proofs.lemmas.List.{take_more, drop-drop, drop-set-lt, drop-replicate}
+use Rattle.std.proofs.lemmas.List.{take_more}
 use Rattle.records.specs.declared.point.Point.{Point}
 use Rattle.records.specs.Points.{point_right}
-use Rattle.costs.specs.Costs.{last_from, last_latency, right_from, points_right, may_follow, no_point}
+use Rattle.costs.specs.Costs.{last_from, last_latency, right_from, points_right, may_follow}
 
 pub last_from-push : (low : ℕ) (xs : List Point) (x : Point) → last_from low (xs ++ x ∷ []) ≡ x.latency
 last_from-push low [] x = refl
@@ -29,12 +29,3 @@ last_of xs d pos =
     ∙ ap last_latency (sym (take_more xs (length xs - 1) d (omega arith)))
     ∙ ap (λ k. last_latency (take k xs)) back
     ∙ ap last_latency (take-length xs)
-
--- behind one point more there is one place less
-pub place_less : (items : List Point) (count : ℕ) (x : Point) → drop count items ≡ replicate (20 - count) no_point → drop (count + 1) (set items count x) ≡ replicate (20 - (count + 1)) no_point
-place_less items count x e =
-    drop-set-lt (count + 1) items count x (omega arith)
-    ∙ sym (drop-drop 1 count items)
-    ∙ ap (drop 1) e
-    ∙ drop-replicate 1 (20 - count) no_point
-    ∙ ap (λ n. replicate n no_point) (omega arith)

@@ -1,9 +1,7 @@
 -- The points of a cost table, in the order of their latencies.
-use Rattle.std.specs.Prelude.{◌≡◌, ℕ, ◌-◌, ◌≤◌, Bool, true, ◌&&◌, List, [], ◌∷◌, length, take, drop, replicate, cond, Option, Some, None, nat_lt}
+use Rattle.std.specs.Prelude.{◌≡◌, ℕ, ◌≤◌, Bool, true, ◌&&◌, List, [], ◌∷◌, length, take, nat_lt}
 use Rattle.records.specs.declared.point.Point.{Point}
 use Rattle.records.specs.Points.{point_right}
-use Rattle.costs.specs.declared.point.PointFault.{PointFault}
-use Rattle.costs.specs.declared.point.PointFault.TheVariants.{Full, OutOfLimits, NotRising}
 
 -- the latency of the last point; of no points, the one given
 abbrev pub last_from : ℕ → List Point → ℕ
@@ -25,18 +23,6 @@ points_right xs = right_from 0 xs
 abbrev pub may_follow : List Point → Point → Bool
 may_follow xs x = point_right x && nat_lt (last_latency xs) x.latency
 
--- why one point more is not taken, if it is not
-abbrev pub push_fault : List Point → Point → Option PointFault
-push_fault xs x =
-    cond (nat_lt (length xs) 20)
-    (cond (point_right x) (cond (nat_lt (last_latency xs) x.latency) None (Some NotRising)) (Some OutOfLimits))
-    (Some Full)
-
--- what stands in an array behind its points
-abbrev pub no_point : Point
-no_point = record { latency = 0; cost = 0 }
-
--- The first places of the array have points that are right, and nothing is in the others.
+-- the first points of an array
 abbrev pub Kept : List Point → ℕ → Type 0
-Kept items count =
-    (length items ≡ 20) × (count ≤ 20) × (points_right (take count items) ≡ true) × (drop count items ≡ replicate (20 - count) no_point)
+Kept items count = (length items ≡ 20) × (count ≤ 20) × (points_right (take count items) ≡ true)

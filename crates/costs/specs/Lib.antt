@@ -1,2 +1,2 @@
 pub mod Costs
-pub mod PointsLaws
+pub mod Tables

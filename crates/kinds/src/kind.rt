@@ -1,5 +1,5 @@
 // What every kind of resource answers. A resource is a kind number and four numbers.
-// Kept: the project's rule is that these pass by value to each function of a kind, so they are no struct, and kind numbers no enum.
+// Kept: a rule of this project: number and numbers pass by value to each function of a kind, so there is no struct and no enum of them.
 ghost use Rattle.std.specs.Prelude.{◌≡◌};
 ghost use Rattle.kinds.specs.Laws.{Laws};
 ghost use Rattle.kinds.specs.Relations.{Relations};

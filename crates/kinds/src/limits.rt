@@ -5,7 +5,7 @@ ghost use Rattle.kinds.specs.Parts.{demanded as demanded?, repeated as repeated?
 // The largest start that a step is asked from.
 pub const STEP_MAX: u64 = 4_000_000_000;
 
-// Kept: two functions that differ in a number, since each names the limit that its callers mean.
+// Kept: two functions, since callers mean this limit or that one; of one function over a constant each call would say the number.
 // Whether a demand is 1 to 1,000,000.
 pub fn demanded(demand: u32) -> bool
     ensures { result ≡ demanded? demand }

@@ -1,6 +1,6 @@
 // Restoring the heap order after one record has changed.
 // Kept: a heap over lent places, since the library's `BinaryHeap` owns its records on an allocator.
-// Kept: `while` loops, since a path through the heap halves or doubles its place, and no iterator over the slice does.
+// Kept: `while` loops: a path halves or doubles its place, and `successors` would borrow the slice that each step changes.
 ghost use Rattle.std.specs.Prelude.{◌≡◌, ◌+◌, ◌*◌, ◌<◌, ◌≤◌, length, slice_index_or};
 ghost use Rattle.std.specs.BinaryHeap.Sift.{IsGreaterChild, SiftsUp, SiftsDown};
 ghost use Rattle.std.specs.List.Sorted.{IsPermutation};

@@ -1,5 +1,6 @@
 -- What a value in memory describes.
 use Rattle.std.specs.Prelude.{◌<◌, cond, map, length, Some, None, vec_items, vec_len, Option, ◌==◌}
+use Rattle.costs.specs.Tables.{points_of, table_points}
 use Rattle.description.specs.declared.field_kind.FieldKind.{FieldKind}
 use Rattle.description.specs.declared.field_kind.FieldKind.TheVariants.{Header as after_header, Resource as after_resource, Application as after_application, Point as after_point, Activity as after_activity, Edge as after_edge}
 use Rattle.description.specs.Descriptions.{Application, Description}
@@ -11,7 +12,7 @@ use Rattle.reader.specs.declared.stage.Stage.{Stage}
 use Rattle.reader.specs.declared.stage.Stage.TheVariants.{Header, Resource, Application as Drafting, Activity, Edge}
 
 abbrev pub application_of : Stored → Application
-application_of a = record { period = a.period; bound = a.bound; points = a.costs }
+application_of a = record { period = a.period; bound = a.bound; points = table_points a.costs }
 
 abbrev pub described : Memory → Description
 described d = record {
@@ -23,13 +24,13 @@ described d = record {
 }
 
 abbrev pub drafted : Draft → Application
-drafted a = record { period = a.period; bound = a.bound; points = a.points }
+drafted a = record { period = a.period; bound = a.bound; points = points_of a.points }
 
 -- the kind of the last field
 abbrev pub last_of : Stage → FieldKind
 last_of Header = after_header
 last_of Resource = after_resource
-last_of (Drafting a) = cond (length a.points == 0) after_application after_point
+last_of (Drafting a) = cond (length (points_of a.points) == 0) after_application after_point
 last_of Activity = after_activity
 last_of Edge = after_edge
 

@@ -10,7 +10,7 @@ use crate::field::Field;
 use crate::memory::Description;
 use crate::stage::Stage;
 use description::{Activity, Edge};
-use kinds::Kind;
+use kinds::{Kind, demanded};
 use model::Refusal;
 
 impl Description {
@@ -28,7 +28,7 @@ impl Description {
         application < self.applications.len()
             && usize::from(x.resource) < self.resources.len()
             && (1..=64).contains(&x.turns)
-            && (1..=1_000_000).contains(&x.demand)
+            && demanded(x.demand)
             && x.jitter < self.applications[application].period
     }
 

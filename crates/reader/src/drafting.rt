@@ -2,6 +2,7 @@
 ghost use Rattle.std.specs.Prelude.{◌≡◌, ◌<◌, true, false, [], length, if◌then◌else◌, Some, None, is_ok, MatchOption};
 ghost use Rattle.std.specs.Option.{option_map};
 ghost use Rattle.costs.specs.Costs.{may_follow};
+ghost use Rattle.costs.specs.Tables.{points_of};
 ghost use Rattle.description.specs.Limits.{table_right, timing_right};
 ghost use Rattle.description.specs.Reader.{with_point};
 ghost use Rattle.reader.specs.Described.{application_of, drafted, last_of};
@@ -55,8 +56,8 @@ impl Draft {
 
     // One point more, if it may follow; there must be room for it.
     pub(crate) fn add(&mut self, point: Point) -> Result<(), PointFault>
-        requires { length self.old.points < 20 }
-        ensures answer { is_ok result ≡ may_follow self.old.points point }
+        requires { length (points_of self.old.points) < 20 }
+        ensures answer { is_ok result ≡ may_follow (points_of self.old.points) point }
         ensures after { is_ok result ≡ true → Some (drafted self.new) ≡ with_point (Some (drafted self.old)) point }
     {
         self.points.push(point)

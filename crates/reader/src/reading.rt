@@ -9,6 +9,7 @@ ghost use Rattle.reader.specs.Taken.{Ends};
 use crate::field::Field;
 use crate::memory::Description;
 use crate::stage::Stage;
+use description::FieldKind;
 use kinds::Kind;
 use model::Refusal;
 use records::Header;
@@ -45,7 +46,7 @@ impl Description {
         }
         self.label = header.label;
         let mut stage = Stage::Header;
-        self.read_fields(&mut stage, kind, input, 9)
+        self.read_fields(&mut stage, kind, input, FieldKind::Header.size())
     }
 
     // Reads a plan file into the memory that is there. Refused, nothing is described.

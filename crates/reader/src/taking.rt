@@ -1,7 +1,6 @@
 // One field of each kind: whether there may be one more, its length and body, its limits. Each function answers where the next
 // field begins.
-// Kept: the description and how far it has come are two arguments. A struct of both would hold a `&mut`, and each of these functions
-// would have to promise that it is the same reference, which is one clause more and not one less.
+// Kept: description and stage are two arguments: a struct of both would hold a `&mut`, and each function promise that it is the same.
 ghost use Rattle.std.specs.Prelude.{◌≡◌, true, is_some, None};
 ghost use Rattle.description.specs.Reader.{read_settled, settled};
 ghost use Rattle.reader.specs.Described.{Roomy, current_of, reading_of};

@@ -1,17 +1,21 @@
-use Rattle.std.proofs.Common.{◌&&◌, take, sym, ap, ◌∙◌, arith}
+use Rattle.std.proofs.Common.{◌&&◌, ap, ◌∙◌, sym, arith}
 use Rattle.std.proofs.lemmas.List.{length-set, take_more_set}
-use Rattle.costs.specs.Costs.{may_follow, points_right}
-use Rattle.costs.proofs.Rising.{place_less, points_right-push}
+use Rattle.costs.specs.Costs.{points_right}
+use Rattle.costs.specs.Tables.{points_of}
+use Rattle.costs.proofs.Rising.{points_right-push}
 use Rattle.costs.proofs.points.Points.push.Goals as goal
+
+pub returns-clause-after : goal.returns-clause-after
+returns-clause-after c = take_more_set c.args.self.now.items c.args.self.now.count c.args.next (omega arith)
 
 pub invariant_of-self : goal.invariant_of-self
 invariant_of-self c =
-    let p = c.self.inside in
+    let p = c.args.self.now in
     let x = c.args.next in
-    let follows = ap (λ l. may_follow l x) c.self.view_is ∙ sym c.may_follow.ensures ∙ c.if-not-may_follow.false in
-    let e = take_more_set p.items p.count x (omega arith) in (
-      length-set p.items p.count x ∙ c.self.invariant.0,
-      omega arith,
-      ap points_right e ∙ points_right-push (take p.count p.items) x ∙ (λ i. c.self.invariant.2 i && follows i),
-      place_less p.items p.count x c.self.invariant.3,
-    )
+    let e = take_more_set p.items p.count x (omega arith) in record {
+      kept = (
+        length-set p.items p.count x ∙ p.kept.0,
+        omega arith,
+        ap points_right e ∙ points_right-push (points_of p) x ∙ (λ i. p.kept.2 i && (sym c.may_follow.ensures ∙ c.if-not-may_follow.false) i),
+      );
+    }

@@ -1,6 +1,6 @@
 use Rattle.std.proofs.Common.{suc, length, None, Err, sym, ap, ◌∙◌, subst}
 use Rattle.model.specs.declared.refusal.Refusal.TheVariants.{OutOfLimits}
-use Rattle.description.specs.Descriptions.{Description}
+use Rattle.description.specs.Descriptions.{Description, nothing}
 use Rattle.description.specs.declared.field_kind.FieldKind.TheVariants.{Header}
 use Rattle.description.specs.Reader.{Reading, reads}
 use Rattle.reader.specs.Taken.{Ends}
@@ -25,5 +25,7 @@ returns g c =
     let h = c.in_ok-header.header in
     let start : Description → Reading = λ d. record { last = Header; so_far = record { label = h.label; resources = d.resources; applications = d.applications; activities = d.activities; edges = d.edges }; current = None } in
     subst (Ends c.read_fields.result c.read_fields.new.self)
-    (ap (λ d. reads r input (suc (length input)) (start d) 9) c.requires ∙ sym (header_right r input h c.in_ok-header.ensures.answer c.if-header-ne1.false))
+    (ap (λ d. reads r input (suc (length input)) (start d) c.size.result) c.requires
+    ∙ ap (reads r input (suc (length input)) (start nothing)) c.size.ensures
+    ∙ sym (header_right r input h c.in_ok-header.ensures.answer c.if-header-ne1.false))
     c.read_fields.ensures
