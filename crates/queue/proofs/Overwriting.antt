@@ -1,10 +1,11 @@
 -- Writing one value into place after place.
-use Rattle.std.proofs.Common.{◌≡◌, ℕ, zero, suc, ◌+◌, ◌<◌, List, [], ◌∷◌, ◌++◌, length, drop, set, replicate, sym, refl, ap, ◌∙◌, add-one, arith}
+use Rattle.std.proofs.Common.{◌≡◌, List, [], ◌∷◌, length, replicate, refl, subst}
+use Rattle.std.specs.List.{FoldsTo}
 
-written : {X : Type 0} (n : ℕ) (x : X) (d : List X) → n < length d → set (replicate n x ++ drop n d) n x ≡ replicate (suc n) x ++ drop (suc n) d
-written n x [] lt = absurd (omega arith)
-written zero x (y ∷ ys) lt = refl
-written (suc n) x (y ∷ ys) lt = ap (λ l. x ∷ l) (written n x ys (omega arith))
-
-pub one_more_written : {X : Type 0} (n : ℕ) (x : X) (d : List X) → n < length d → set (replicate n x ++ drop n d) n x ≡ replicate (n + 1) x ++ drop (n + 1) d
-one_more_written n x d lt = written n x d lt ∙ ap (λ m. replicate m x ++ drop m d) (sym (add-one n))
+-- what calls that always give this item, and change nothing, write
+pub filled : {P X : Type 0} (R : P → X → P → Type 0) (item : X) (f g : P) (xs : List X) → ((x : X) (q : P) → R f x q → (q ≡ f) × (x ≡ item)) → FoldsTo R f xs g → xs ≡ replicate (length xs) item
+filled R item f g [] h run = refl
+filled R item f g (x ∷ xs) h run =
+    let one = h x run.0 run.1 in
+    let rest = filled R item f g xs h (subst (λ p. FoldsTo R p xs g) one.0 run.2) in
+    λ i. one.1 i ∷ rest i

@@ -55,10 +55,6 @@ pub(crate) fn take_first<T: Ranked>(queue: &mut [T], count: usize) -> T
 pub fn clear<T: Ranked>(queue: &mut [T], count: usize, item: T)
     ensures { queue.new ≡ replicate (min count (length queue.old)) item ++ drop (min count (length queue.old)) queue.old }
 {
-    // Kept: `fill` wants a clone that cannot fail, and `T: Copy` does not say so.
     let end = count.min(queue.len());
-    let part = &mut queue[..end];
-    for place in part.iter_mut() {
-        *place = item;
-    }
+    queue[..end].fill_with(|| item);
 }
