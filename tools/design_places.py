@@ -1,5 +1,5 @@
 #!/usr/bin/env python3
-"""Lists the places in crates/*/src that the design pass looks at, a section for each of its points.
+"""Lists the places in crates/*/src (and the proof files) that docs/DESIGN-PASS.md counts, a section for each of its searches.
 
 usage: tools/design_places.py [--counts] [ROOT]
 
@@ -85,34 +85,34 @@ def main():
     code = [(p, re.sub(r"(requires|ensures)( \w+)? \{.*\}", "", t)) for p, t in files]
 
     searches = {
-        "1 own enums": lines(files, r"^\s*(pub(\(crate\))? )?enum "),
-        "1 a bool that says whether a change was made": [str(f) for f in fns if re.search(r"-> bool", f.head) and "&mut" in f.head],
-        "1 flags among fields": lines(files, r"^\s*(pub(\(crate\))? )?\w+: bool,"),
-        "1 numbers that stand for kinds, codes or refusals": [str(f) for f in fns if re.search(r"\b(kind|code|number): u\d+|fn numbers?\(", f.head)] + lines(files, r"^\s*pub kind: u16") + lines(files, r"unwrap_or\(0\)"),
-        "1 results passed on by hand": lines(code, r"(Ok\(\w+\) => Ok\(|Err\(\w+\) => (return )?Err\()"),
-        "2 functions of one shape": groups([(shape(f.body), str(f)) for f in fns if len(f.body) > 40], 2),
-        "2 functions that only call another of the same contract": [str(f) for f in fns if re.fullmatch(r"\{\s*(self\.)?\w+\([\w, &]*\)\s*\}", f.body)],
-        "2 types of one shape": groups([(re.sub(r"\s+", "", re.sub(r"//.*|pub(\(crate\))? ", "", m[2])), f"{p}: {m[1]}") for p, t in files for m in re.finditer(r"struct (\w+)(?:<[^>]*>)? (\{[^}]*\})", t)], 2),
-        "3 while and loop": lines(code, r"\b(while|loop)\b.*\{$"),
-        "3 for over a range": lines(code, r"\bfor \w+ in .*\.\."),
-        "3 for with enumerate": lines(code, r"\benumerate\(\)"),
-        "3 for that only looks for one": [str(f) for f in fns if re.search(r"\bfor\b", f.body) and re.search(r"return (true|false|None|Some)", f.body)],
-        "4 comparisons, conversions and printing in impls": lines(files, r"^impl.* (PartialEq|Eq|PartialOrd|Ord|Clone|Copy|From|TryFrom|Display|fmt::Display)\b.* for "),
-        "4 functions that compare, convert or print": [str(f) for f in fns if re.fullmatch(r"compare|keys|keys_before|ranks_before|of|numbers?|refuse_fault|line|\w+_line|next|digit|bytes_of|entry|event|ready|point", f.name)],
-        "4 fields copied one by one": lines(files, r"^\s*(\w+): \w+\.\1,"),
-        "4 limits compared by hand": lines(code, r"\b[\d_]+ <= [\w.\[\]]+ && [\w.\[\]]+ <= [\d_]+|== 0 \|\| \w+ > "),
-        "5 clauses that stand in three functions": groups([(re.sub(r"\s+", " ", c), str(f)) for f in fns for c in re.findall(r"requires(?: \w+)? \{(.*)\}", f.head)], 3),
-        "5 parameters that travel together": groups([(" ".join(pair), str(f)) for f in fns for pair in itertools.combinations(sorted(set(re.findall(r"\b\w+: &?(?:mut )?[\w\[\]; <>]+", re.sub(r"(requires|ensures)( \w+)? \{.*\}|<.*?>", "", f.head)))), 2)], 3),
-        "6 arrays among fields and locals": lines(files, r"^\s*(pub(\(crate\))? )?\w+: \[.*; .*\],|let mut \w+ = \["),
-        "6 counts beside what they count": lines(files, r"^\s*(pub(\(crate\))? )?(count|len|cells): usize,|\[T\], count: usize|let mut (count|len) = 0"),
-        "7 matches and tests that pick what to call": [str(f) for f in fns if len(re.findall(r"=> (self|draft)\.\w+\(", f.body)) >= 3] + lines(code, r"if self\.first\.known"),
-        "7 dyn and function pointers": lines(code, r"\bdyn\b|: fn\("),
+        "options: own enums": lines(files, r"^\s*(pub(\(crate\))? )?enum "),
+        "options: a bool that says whether a change was made": [str(f) for f in fns if re.search(r"-> bool", f.head) and "&mut" in f.head],
+        "options: flags among fields": lines(files, r"^\s*(pub(\(crate\))? )?\w+: bool,"),
+        "options: numbers that stand for kinds, codes or refusals": [str(f) for f in fns if re.search(r"\b(kind|code|number): u\d+|fn numbers?\(", f.head)] + lines(files, r"^\s*pub kind: u16") + lines(files, r"unwrap_or\(0\)"),
+        "options: results passed on by hand": lines(code, r"(Ok\(\w+\) => Ok\(|Err\(\w+\) => (return )?Err\()"),
+        "twins: functions of one shape": groups([(shape(f.body), str(f)) for f in fns if len(f.body) > 40], 2),
+        "twins: functions that only call another of the same contract": [str(f) for f in fns if re.fullmatch(r"\{\s*(self\.)?\w+\([\w, &]*\)\s*\}", f.body)],
+        "twins: types of one shape": groups([(re.sub(r"\s+", "", re.sub(r"//.*|pub(\(crate\))? ", "", m[2])), f"{p}: {m[1]}") for p, t in files for m in re.finditer(r"struct (\w+)(?:<[^>]*>)? (\{[^}]*\})", t)], 2),
+        "loops: while and loop": lines(code, r"\b(while|loop)\b.*\{$"),
+        "loops: for over a range": lines(code, r"\bfor \w+ in .*\.\."),
+        "loops: for with enumerate": lines(code, r"\benumerate\(\)"),
+        "loops: for that only looks for one": [str(f) for f in fns if re.search(r"\bfor\b", f.body) and re.search(r"return (true|false|None|Some)", f.body)],
+        "conversions: comparisons, conversions and printing in impls": lines(files, r"^impl.* (PartialEq|Eq|PartialOrd|Ord|Clone|Copy|From|TryFrom|Display|fmt::Display)\b.* for "),
+        "conversions: functions that compare, convert or print": [str(f) for f in fns if re.fullmatch(r"compare|keys|keys_before|ranks_before|of|numbers?|refuse_fault|line|\w+_line|next|digit|bytes_of|entry|event|ready|point", f.name)],
+        "conversions: fields copied one by one": lines(files, r"^\s*(\w+): \w+\.\1,"),
+        "conversions: limits compared by hand": lines(code, r"\b[\d_]+ <= [\w.\[\]]+ && [\w.\[\]]+ <= [\d_]+|== 0 \|\| \w+ > "),
+        "together: clauses that stand in three functions": groups([(re.sub(r"\s+", " ", c), str(f)) for f in fns for c in re.findall(r"requires(?: \w+)? \{(.*)\}", f.head)], 3),
+        "together: parameters that travel together": groups([(" ".join(pair), str(f)) for f in fns for pair in itertools.combinations(sorted(set(re.findall(r"\b\w+: &?(?:mut )?[\w\[\]; <>]+", re.sub(r"(requires|ensures)( \w+)? \{.*\}|<.*?>", "", f.head)))), 2)], 3),
+        "buffers: arrays among fields and locals": lines(files, r"^\s*(pub(\(crate\))? )?\w+: \[.*; .*\],|let mut \w+ = \["),
+        "buffers: counts beside what they count": lines(files, r"^\s*(pub(\(crate\))? )?(count|len|cells): usize,|\[T\], count: usize|let mut (count|len) = 0"),
+        "steps: matches and tests that pick what to call": [str(f) for f in fns if len(re.findall(r"=> (self|draft)\.\w+\(", f.body)) >= 3] + lines(code, r"if self\.first\.known"),
+        "steps: dyn and function pointers": lines(code, r"\bdyn\b|: fn\("),
     }
     proofs = sorted(root.glob("crates/*/proofs/**/*.antt"))
     answers = [p for p in proofs if p.name in ("Answers.antt", "Invariants.antt", "Proof.antt")]
     lemmas = [p for p in proofs if p not in answers and p.name != "Lib.antt"]
-    searches["8 answers and invariants"] = [f"{p.relative_to(root)}: {sum(1 for l in p.read_text().split(chr(10)) if re.match(r'(abbrev )?pub ', l))}" for p in answers]
-    searches["8 lemma files"] = [f"{p.relative_to(root)}: {len(p.read_text().split(chr(10)))} lines" for p in lemmas]
+    searches["proofs: answers and invariants"] = [f"{p.relative_to(root)}: {sum(1 for l in p.read_text().split(chr(10)) if re.match(r'(abbrev )?pub ', l))}" for p in answers]
+    searches["proofs: lemma files"] = [f"{p.relative_to(root)}: {len(p.read_text().split(chr(10)))} lines" for p in lemmas]
 
     for name, found in searches.items():
         print(f"{len(found):4}  {name}")
