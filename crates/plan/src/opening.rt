@@ -7,6 +7,7 @@ ghost use Rattle.plan.specs.Plans.{Means, cells_of, plan_of};
 
 use crate::inner::{Inner, Plan};
 use crate::laying::lay_cells;
+use description::MOST_CELLS;
 use kinds::Kind;
 use model::Refusal;
 use reader::Description;
@@ -17,7 +18,7 @@ impl Inner {
         ensures { IfOk result (λ p. (plan_of p ≡ nothing) × (cells_of p ≡ [])) }
     {
         let description = Description::new(heap)?;
-        let cells = Vec::with_capacity(heap, 2048)?;
+        let cells = Vec::with_capacity(heap, MOST_CELLS)?;
         Ok(Inner { description, cells })
     }
 

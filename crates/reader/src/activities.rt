@@ -9,7 +9,7 @@ ghost use Rattle.reader.specs.Described.{described, reading_of};
 use crate::field::Field;
 use crate::memory::Description;
 use crate::stage::Stage;
-use description::{Activity, Edge};
+use description::{Activity, Edge, MOST_CELLS};
 use kinds::{Kind, demanded};
 use model::Refusal;
 
@@ -58,7 +58,7 @@ impl Description {
         if !self.demand_taken(field.kind, x) {
             return Err(Refusal::DemandNotTaken(field.place()));
         }
-        if self.cells + usize::from(x.turns) > 2048 {
+        if self.cells + usize::from(x.turns) > MOST_CELLS {
             return Err(Refusal::WrongCount(field.place()));
         }
         Ok(())

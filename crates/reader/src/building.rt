@@ -4,6 +4,7 @@ ghost use Rattle.description.specs.Descriptions.{nothing};
 ghost use Rattle.reader.specs.Described.{described};
 
 use crate::memory::Description;
+use description::{MOST_ACTIVITIES, MOST_APPLICATIONS, MOST_EDGES, MOST_RESOURCES};
 use std::alloc::{AllocError, Global};
 
 impl Description {
@@ -11,10 +12,10 @@ impl Description {
     pub fn new(heap: Global) -> Result<Description, AllocError>
         ensures { IfOk result (λ d. described d ≡ nothing) }
     {
-        let resources = Vec::with_capacity(heap, 32)?;
-        let applications = Vec::with_capacity(heap, 64)?;
-        let activities = Vec::with_capacity(heap, 512)?;
-        let edges = Vec::with_capacity(heap, 1024)?;
+        let resources = Vec::with_capacity(heap, MOST_RESOURCES)?;
+        let applications = Vec::with_capacity(heap, MOST_APPLICATIONS)?;
+        let activities = Vec::with_capacity(heap, MOST_ACTIVITIES)?;
+        let edges = Vec::with_capacity(heap, MOST_EDGES)?;
         Ok(Description {
             label: 0,
             resources,

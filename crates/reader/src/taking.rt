@@ -10,7 +10,10 @@ use crate::field::Field;
 use crate::memory::Description;
 use crate::stage::{Draft, Stage};
 use costs::Point;
-use description::{Activity, Edge, FieldKind, Resource};
+use description::{
+    Activity, Edge, FieldKind, MOST_ACTIVITIES, MOST_APPLICATIONS, MOST_EDGES, MOST_POINTS,
+    MOST_RESOURCES, Resource,
+};
 use kinds::Kind;
 use model::Refusal;
 use records::ApplicationField;
@@ -24,7 +27,7 @@ impl Description {
         requires { current_of stage.old ≡ None }
         ensures { Goes result field.now.at self.new stage.new (read_settled (K.Kind.relations field.now.kind.now) field.now.input.now FieldKind.Resource field.now.at (settled (reading_of self.old stage.old) FieldKind.Resource)) }
     {
-        field.allow_one_more(self.resources.len(), 32)?;
+        field.allow_one_more(self.resources.len(), MOST_RESOURCES)?;
         let resource = field.fetch::<Resource>()?;
         if !field.kind.sound(resource.kind, resource.numbers) {
             return Err(Refusal::UnsoundResource(field.place()));
@@ -43,7 +46,7 @@ impl Description {
         ensures { Goes result field.now.at self.new stage.new (read_settled (K.Kind.relations field.now.kind.now) field.now.input.now FieldKind.Application field.now.at (settled (reading_of self.old stage.old) FieldKind.Application)) }
     {
         self.complete(*stage, field.place())?;
-        field.allow_one_more(self.applications.len(), 64)?;
+        field.allow_one_more(self.applications.len(), MOST_APPLICATIONS)?;
         let ApplicationField { period, bound } = field.fetch()?;
         let draft = Draft::new(period, bound).ok_or(Refusal::OutOfLimits(field.place()))?;
         *stage = Stage::Application(draft);
@@ -62,7 +65,7 @@ impl Description {
         let Stage::Application(mut draft) = *stage else {
             return Err(Refusal::WrongTag(field.place()));
         };
-        field.allow_one_more(draft.points.len(), 20)?;
+        field.allow_one_more(draft.points.len(), MOST_POINTS)?;
         let point = field.fetch::<Point>()?;
         if draft.add(point).is_err() {
             return Err(Refusal::OutOfLimits(field.place()));
@@ -80,7 +83,7 @@ impl Description {
         ensures { Goes result field.now.at self.new stage.new (read_settled (K.Kind.relations field.now.kind.now) field.now.input.now FieldKind.Activity field.now.at (settled (reading_of self.old stage.old) FieldKind.Activity)) }
     {
         self.complete(*stage, field.place())?;
-        field.allow_one_more(self.activities.len(), 512)?;
+        field.allow_one_more(self.activities.len(), MOST_ACTIVITIES)?;
         let activity = field.fetch::<Activity>()?;
         self.judge_activity(activity, field)?;
         self.add_activity(activity);
@@ -96,7 +99,7 @@ impl Description {
         requires { current_of stage.old ≡ None }
         ensures { Goes result field.now.at self.new stage.new (read_settled (K.Kind.relations field.now.kind.now) field.now.input.now FieldKind.Edge field.now.at (settled (reading_of self.old stage.old) FieldKind.Edge)) }
     {
-        field.allow_one_more(self.edges.len(), 1024)?;
+        field.allow_one_more(self.edges.len(), MOST_EDGES)?;
         if !(stage.is_edge() || self.is_active()) {
             return Err(Refusal::WrongCount(field.place()));
         }
