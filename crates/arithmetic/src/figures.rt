@@ -48,6 +48,6 @@ impl Entry {
     pub fn begin(&self, occurrence: u64) -> u128
         ensures { result ≡ begin (endless self.now) occurrence }
     {
-        self.start as u128 + occurrence as u128 * self.repeat as u128
+        u128::from(self.start) + u128::from(occurrence) * u128::from(self.repeat)
     }
 }

@@ -5,7 +5,7 @@ ghost use Rattle.description.specs.Forms.{fault_refusal};
 use fields::FieldFault;
 use model::Refusal;
 
-// Kept: no `From`, which has no room for the place beside the fault; both enums are of crates below.
+// Kept: no `From`: a fault alone has no place, and of a pair neither type is this crate's.
 pub fn refuse_fault(fault: FieldFault, place: u64) -> Refusal
     ensures { result ≡ fault_refusal fault place }
 {

@@ -1,5 +1,5 @@
 // Reading fields.
-// Kept: the input and a place in it are two arguments, as in `get`: what is read needs no more than these two, once each.
+// Kept: input and place are two arguments, as in `get`; three functions take them, and a struct would save none of them a line.
 ghost use Rattle.std.specs.Prelude.{◌≡◌, ◌+◌, ◌<◌, ◌≤◌, length, drop, slice_index, MatchResult};
 ghost use Rattle.fields.specs.declared.record.FieldFault.TheVariants.{Short};
 ghost use Rattle.fields.specs.Bytes.{two_at};

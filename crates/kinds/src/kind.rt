@@ -1,5 +1,5 @@
 // What every kind of resource answers. A resource is a kind number and four numbers.
-// Kept: a rule of this project: number and numbers pass by value to each function of a kind, so there is no struct and no enum of them.
+// Kept: a rule of this project: number and numbers pass by value to each function of a kind, as no struct and no enum.
 ghost use Rattle.std.specs.Prelude.{◌≡◌};
 ghost use Rattle.kinds.specs.Laws.{Laws};
 ghost use Rattle.kinds.specs.Relations.{Relations};

@@ -19,7 +19,7 @@ pub trait Single {
     fn right(&self, numbers: [u32; 4]) -> bool
         ensures { result ≡ parts.right numbers };
 
-    // Kept: right numbers are a premise of the next four functions; a rule of this project passes them by value, not as a checked type.
+    // Kept: that numbers are right is a premise of the next four functions; a rule of this project passes them by value.
     // Whether a demand of 1 to 1,000,000 is taken.
     fn carries(&self, numbers: [u32; 4], demand: u32) -> bool
         requires { parts.right numbers ≡ true }

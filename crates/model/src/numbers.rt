@@ -1,6 +1,6 @@
 // A refusal as eight numbers: number, place, cell as activity and turn, other cell likewise, two occurrences. What does not apply
 // is 0.
-// Kept: a table in place of numbers at the variants: a discriminant could hold a rule's number, but none of those beside fields.
+// Kept: a table: variants with fields can have no number of their own, and one place for all of them is plainer than two.
 ghost use Rattle.std.specs.Prelude.{◌≡◌};
 ghost use Rattle.model.specs.Refusals.{clash_numbers, numbers_of, pair_number, row};
 

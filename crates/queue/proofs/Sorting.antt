@@ -1,4 +1,5 @@
 -- A list in the order of rank is the only one with its elements.
+-- Kept: the library does not say that a list in order is the only one with its elements.
 use Rattle.std.proofs.Common.{◌≡◌, ℕ, ◌+◌, Bool, true, false, cond, List, [], ◌∷◌, sum_by, sym, refl, ap, ◌∙◌, arith}
 use Rattle.std.specs.List.Sorted.{IsPermutation}
 use Rattle.std.specs.List.{AllByRecursion}

@@ -26,7 +26,7 @@ impl Ranked for Ready {
     }
 }
 
-// Kept: `starts` is a flag, since false ranks before true as an end does before a start.
+// Kept: `starts` is a flag; an enum of end and start would rank the same by its derived order, with two names more.
 // By time; at one time an end before a start, then the lowest activity, then the lowest turn.
 #[derive(Clone, Copy, PartialEq, Eq, PartialOrd, Ord, Debug)]
 pub struct Event {

@@ -1,5 +1,5 @@
 // One part more.
-// Kept: four functions, since each list has limits of its own that its part must meet.
+// Kept: four functions: another list grows in each, and of an activity and an edge they ask limits of its own.
 ghost use Rattle.std.specs.Prelude.{◌≡◌, ◌+◌, ◌<◌, ◌≤◌, true, [], ◌∷◌, ◌++◌, vec_len};
 ghost use Rattle.description.specs.Limits.{activity_right, edge_right};
 ghost use Rattle.description.specs.Reader.{with_applications};

@@ -14,7 +14,7 @@ pub struct Description {
     pub activities: Vec<Activity>,
     pub edges: Vec<Edge>,
     // how many cells the activities have
-    // Kept: beside them, so that no activity that is read sums the turns of all before it.
+    // Kept: a public field; without it each activity that is read would sum the turns of all before it.
     pub cells: usize,
     ghost room: { (32 ≤ vec_capacity resources) × (64 ≤ vec_capacity applications) × (512 ≤ vec_capacity activities) × (1024 ≤ vec_capacity edges) },
     ghost few: { (vec_len resources ≤ 32) × (vec_len applications ≤ 64) × (vec_len activities ≤ 512) × (vec_len edges ≤ 1024) },

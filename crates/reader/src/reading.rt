@@ -16,7 +16,7 @@ use records::Header;
 
 impl Description {
     // The fields from `start` on.
-    // Kept: three arguments and no `Field`: one by value that is moved on differs at entry and exit, and clauses would have to say which.
+    // Kept: no `Field` in place of the three: moved on, it would differ at exit, and clauses would have to say which.
     fn read_fields<K: Kind>(
         &mut self,
         stage: &mut Stage,

@@ -1,6 +1,6 @@
 // One field of each kind: whether there may be one more, its length and body, its limits. Each function answers where the next
 // field begins.
-// Kept: description and stage are two arguments: a struct of both would hold a `&mut`, and each function promise that it is the same.
+// Kept: description and stage are two arguments; a struct would hold a `&mut`, and each function promise that it is the same one.
 ghost use Rattle.std.specs.Prelude.{◌≡◌, true, is_some, None};
 ghost use Rattle.description.specs.Reader.{read_settled, settled};
 ghost use Rattle.reader.specs.Described.{Roomy, current_of, reading_of};

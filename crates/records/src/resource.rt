@@ -37,7 +37,7 @@ impl Record for Resource {
     fn read(body: &[u8]) -> Resource {
         Resource {
             kind: u16::from_be_bytes(bytes_at(body, 0)),
-            // Kept: one by one, here and in `write`: with `array::from_fn`, and with `chunks_exact_mut` there, the proof did not close.
+            // Kept: one by one, here and in `write`: by `array::from_fn`, and by `chunks_exact_mut` there, it did not prove.
             numbers: [
                 u32::from_be_bytes(bytes_at(body, 2)),
                 u32::from_be_bytes(bytes_at(body, 6)),

@@ -8,7 +8,7 @@ use kinds::{Single, SingleStepping};
 #[derive(Clone, Copy)]
 pub struct Link;
 
-// Kept: core and link answer alike in three points and in the step; a trait between them would have more lines than these answers.
+// Kept: core and link answer alike in three points and in the step; a trait between them would be longer than these answers.
 impl Single for Link {
     ghost parts = { link_parts };
 
