@@ -16,6 +16,7 @@ struct Header<'a> {
 }
 
 // The header of the field that begins at `at`; short where it passes the end.
+#[inline]
 fn header_at(input: &[u8], at: usize) -> Result<Header<'_>, FieldFault>
     ensures { MatchResult result (λ h. (at + 3 ≤ length input.now) × (h.tag ≡ slice_index input.now at) × (h.len ≡ two_at input.now (at + 1)) × (h.rest.now ≡ drop (at + 3) input.now)) (λ e. (length input.now < at + 3) × (e ≡ Short)) }
 {

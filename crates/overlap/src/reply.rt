@@ -18,15 +18,17 @@ pub fn answer_figures(figures: [u64; 6]) -> Result<Answer, Limits>
     Ok(Answer::about(&pair.first, &pair.second))
 }
 
-// Words are judged before their number: a bad one among the first six is told.
+// Words are judged before their number: a bad one among the first six is told. The text is cut into words once.
 fn six_numbers(text: &str) -> Result<[u64; 6], Fault<'_>> {
     let mut numbers = [0; 6];
-    for (place, (number, word)) in numbers.iter_mut().zip(text.split_whitespace()).enumerate() {
+    let mut words = text.split_whitespace();
+    for (place, number) in numbers.iter_mut().enumerate() {
+        let word = words.next().ok_or(Fault::Count(place))?;
         *number = word
             .parse()
             .map_err(|_| Fault::Word(place.saturating_add(1), word))?;
     }
-    match text.split_whitespace().count() {
+    match words.fold(6usize, |count, _| count.saturating_add(1)) {
         6 => Ok(numbers),
         count => Err(Fault::Count(count)),
     }

@@ -11,7 +11,7 @@ use Rattle.queue.specs.Ranking.{Ranking}
 pub less_told : (xs ys : List ℕ) (r : Bool) → r ≡ is_some_and is_lt (slice_partial_cmp (λ x y. Some (nat_cmp x y)) xs ys) → r ≡ less xs ys
 less_told = same_from_slice_cmp_tested nat_cmp is_lt less refl (λ _ _. refl) (λ _ _. refl) (λ x y xs ys o h. grind (arith, nat_tests))
 
-less_is : (xs ys : List ℕ) → is_lt (slice_cmp nat_cmp xs ys) ≡ less xs ys
+pub less_is : (xs ys : List ℕ) → is_lt (slice_cmp nat_cmp xs ys) ≡ less xs ys
 less_is xs ys = same_from_slice_cmp nat_cmp is_lt less refl (λ _ _. refl) (λ _ _. refl) (λ x y xs ys o h. grind (arith, nat_tests)) xs ys _ refl
 
 is_less : (r : Ordering) → is_lt r ≡ true → r ≡ Less
