@@ -71,14 +71,14 @@ module _ (p q g : ℕ) (pp : 0 < p) (qp : 0 < q) (h : Greatest p q g) where
 
   module _ (x a b e w : ℕ) where
     -- the least number of steps after which the first meets the second modulo q
-    abbrev least : ℕ
+    abbrev pub least : ℕ
     least = e / g * x % (q / g)
 
     -- the same, once the first is not before the second's start
-    abbrev steps : ℕ
+    abbrev pub steps : ℕ
     steps = least + q / g * w
 
-    least_bound : least < q / g
+    pub least_bound : least < q / g
     least_bound = mod-lt (e / g * x) quotient_positive
 
     pub least_limit : p ≤ 64000000 → q ≤ 64000000 → least * p ≤ 64000000 * 64000000
@@ -88,7 +88,7 @@ module _ (p q g : ℕ) (pp : 0 < p) (qp : 0 < q) (h : Greatest p q g) where
 
     module _ (up : RoundedUp (b - (a + least * p)) (q / g * p) w) where
       -- one round of q / g steps less and the first is still before the second's start, or it is before its own
-      reach : steps * p ≤ b + q / g * p
+      pub reach : steps * p ≤ b + q / g * p
       reach = by w up
         where
           by : (w : ℕ) → RoundedUp (b - (a + least * p)) (q / g * p) w → (least + q / g * w) * p ≤ b + q / g * p

@@ -3,6 +3,7 @@ ghost use Rattle.arithmetic.specs.Divisors.{Greatest};
 ghost use Rattle.arithmetic.specs.Factors.{Identity, Reduced};
 
 // The greatest common divisor; of 0 and 0 it is 0, which every number divides.
+#[tactic(auto, using(crate::proofs::Divisors::greatest_step))]
 pub fn gcd(a: u64, b: u64) -> u64
     ensures { Greatest a b result }
 {

@@ -1,6 +1,6 @@
 // Whether two entries ever overlap. Nothing is unrolled and nothing is searched: the greatest common divisor of the
 // repeats decides, and the extended algorithm names occurrences that overlap.
-ghost use Rattle.std.specs.Prelude.{◌≡◌, ◌+◌, ◌<◌, ◌≤◌, false, MatchBool, MatchOption};
+ghost use Rattle.std.specs.Prelude.{◌≡◌, ◌+◌, ◌<◌, ◌≤◌, false, IfSome, MatchBool, MatchOption};
 ghost use Rattle.arithmetic.specs.Divisors.{gcd};
 ghost use Rattle.arithmetic.specs.Entries.{endless, Overlapping, OverlappingItself};
 ghost use Rattle.arithmetic.specs.Laws.{apart as apart?, gap as gap_of};
@@ -18,9 +18,11 @@ pub fn overlap(a: &Entry, b: &Entry) -> Option<OccurrencePair>
     if apart(a, b) { None } else { Some(meet(a, b)) }
 }
 
-// Two different occurrences of `a` that overlap; none exactly when no two do. If any two do, each does with the next.
+// Two different occurrences of `a` that overlap; none exactly when no two do. If any two do, the first two do.
+#[tactic(auto, using(crate::proofs::Pairs::itself_says))]
 pub fn overlaps_itself(a: &Entry) -> Option<OccurrencePair>
-    ensures { MatchOption result (NeverItself (endless a.now)) (OverlappingItself (endless a.now)) }
+    ensures decides { MatchOption result (NeverItself (endless a.now)) (OverlappingItself (endless a.now)) }
+    ensures first_two { IfSome result (λ pair. pair ≡ record { first = 0; second = 1 }) }
 {
     let pair = OccurrencePair {
         first: 0,

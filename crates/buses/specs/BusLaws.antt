@@ -1,15 +1,15 @@
 -- The laws and the step of a bus.
-use Rattle.std.specs.Prelude.{◌≡◌, ℕ, zero, suc, ◌+◌, ◌*◌, ◌/◌, ◌%◌, ◌≤◌, Bool, true, ◌&&◌, List, Some, slice_index, refl}
+use Rattle.std.specs.Prelude.{◌≡◌, ℕ, zero, suc, ◌+◌, ◌*◌, ◌/◌, ◌%◌, ◌≤◌, Bool, true, false, ◌&&◌, List, Some, ◌==◌, slice_index, refl}
 use Rattle.std.proofs.Common.{sym, ap, ◌∙◌, le-mul_of_pos_right, mul_comm, arith}
 use Rattle.std.proofs.Math.Nat.{mod-add-div, add-mul-mod_self_left}
-use Rattle.std.proofs.lemmas.Bool.{and_from, and_right}
+use Rattle.std.proofs.lemmas.Bool.{and_from, and_right, eqb-true}
 use Rattle.std.proofs.lemmas.Bool.Decides.{nat_tests}
 use Rattle.buses.specs.Bus.{bus, bus_parts, bus_right, at_slot}
 use Rattle.kinds.specs.Laws.{Laws}
-use Rattle.kinds.specs.Parts.{Lawful}
+use Rattle.kinds.specs.Parts.{Lawful, takes, repeated}
 use Rattle.buses.specs.Slots.{FirstSlot, serves}
 use Rattle.kinds.specs.Smallest.{Smallest}
-use Rattle.kinds.specs.PartLaws.{kind_laws}
+use Rattle.kinds.specs.PartLaws.{kind_laws, under}
 
 -- what a right bus has
 pub record Right (c m l : ℕ) : Type 0 where
@@ -38,7 +38,9 @@ later_slot c (suc m) l p s e = grind (arith, later_slot c m l p s e, later_place
 pub bus_lawful : Lawful bus_parts
 bus_lawful = record {
   time_limits = λ ns d right within carried. slot_limits (slice_index ns 0) (slice_index ns 1) (slice_index ns 2) (is_right (slice_index ns 0) (slice_index ns 1) (slice_index ns 2) (slice_index ns 3) right);
-  grid_repeats = λ ns p s. grind (arith, nat_tests, later_slot (slice_index ns 0) (slice_index ns 1) (slice_index ns 2) p s);
+  grid_repeats = λ ns p s.
+      under (p % slice_index ns 0 == 0) (at_slot (slice_index ns 0) (slice_index ns 1) (slice_index ns 2) (s + p)) (at_slot (slice_index ns 0) (slice_index ns 1) (slice_index ns 2) s)
+      (λ h. later_slot (slice_index ns 0) (slice_index ns 1) (slice_index ns 2) p s (eqb-true (p % slice_index ns 0) 0 h));
   clash_symmetric = λ ns s a t b. grind (arith, nat_tests);
   clash_moves = λ ns p s a t b h. grind (arith, nat_tests, later_place (slice_index ns 0) p s);
 }
@@ -46,13 +48,18 @@ bus_lawful = record {
 pub bus_laws : Laws bus
 bus_laws = kind_laws bus_parts bus_lawful
 
+regrouped : (a b c e : Bool) → ((a && (b && c)) && e) ≡ (a && (b && (c && e)))
+regrouped true true c e = refl
+regrouped true false c e = refl
+regrouped false b c e = refl
+
 module _ (k : ℕ) (ns : List ℕ) (d p : ℕ) where
   abbrev slot : ℕ → Bool
   slot s = at_slot (slice_index ns 0) (slice_index ns 1) (slice_index ns 2) s
 
   -- a start is admitted exactly when the demand with its repeat is served and the start begins a slot
   pub admits_is : (s : ℕ) → (serves k ns d p && slot s) ≡ bus.admits k ns d p s
-  admits_is s = grind arith
+  admits_is s = regrouped (takes bus_parts k ns d) (repeated p) (p % slice_index ns 0 == 0) (slot s)
 
   pub step_some : (from r : ℕ) → from ≤ 4000000000 → serves k ns d p ≡ true
       → FirstSlot (slice_index ns 0) (slice_index ns 1) (slice_index ns 2) from r → Smallest (bus.admits k ns d p) from (Some r)

@@ -1,4 +1,4 @@
--- What the functions of a bus answer for each other.
+-- When a bus serves a demand with its repeat, and its first slot from a start on.
 use Rattle.std.specs.Prelude.{◌≡◌, ℕ, ◌%◌, ◌<◌, ◌≤◌, Bool, true, false, ◌&&◌, List, ◌==◌, slice_index}
 use Rattle.buses.specs.Bus.{bus_parts, at_slot}
 use Rattle.kinds.specs.Parts.{takes, repeated}

@@ -1,9 +1,13 @@
 -- The laws of a kind follow from those of its parts.
-use Rattle.std.proofs.Common.{◌≡◌, ℕ, ◌≤◌, Bool, true, false, cond, ◌&&◌, leb, List, Some, None, ap, arith}
+use Rattle.std.proofs.Common.{◌≡◌, ℕ, ◌≤◌, Bool, true, false, cond, ◌&&◌, leb, List, Some, None, refl, ap, arith}
 use Rattle.std.proofs.lemmas.Bool.Decides.{nat_tests}
 use Rattle.std.proofs.lemmas.Option.{cond_some, none-some}
 use Rattle.kinds.specs.Laws.{Laws, Outside}
 use Rattle.kinds.specs.Parts.{Parts, Lawful, kind, sound, takes, repeated}
+
+pub under : (t x y : Bool) → (t ≡ true → x ≡ y) → (t && x) ≡ (t && y)
+under true x y h = h refl
+under false x y h = refl
 
 -- within 1 to the most, as a test
 outside : (most n : ℕ) → Outside most n → (leb 1 n && leb n most) ≡ false

@@ -56,5 +56,11 @@ pub fn clear<T: Ranked>(queue: &mut [T], count: usize, item: T)
     ensures { queue.new ≡ replicate (min count (length queue.old)) item ++ drop (min count (length queue.old)) queue.old }
 {
     let end = count.min(queue.len());
-    queue[..end].fill_with(|| item);
+    fill(&mut queue[..end], item);
+}
+
+fn fill<T: Ranked>(places: &mut [T], item: T)
+    ensures { places.new ≡ replicate (length places.old) item }
+{
+    places.fill_with(|| item);
 }

@@ -24,16 +24,19 @@ use Rattle.description.specs.Forms.{field_at, field_size, said}
 use Rattle.description.specs.Written.{field_bytes}
 use Rattle.written.proofs.FieldsWritten.{kind_of}
 
+pub no_ok : {A E : Type 0} {G : Type 0} (e : E) (v : A) → ◌≡◌ {A = Result A E} (Err e) (Ok v) → G
+no_ok e v h = cc
+
 -- the way of a test that leads to an `Ok`
 pub ok_else : {A E : Type 0} (b : Bool) (e : E) (y : Result A E) (v : A) → cond b (Err e) y ≡ Ok v → (b ≡ false) × (y ≡ Ok v)
-ok_else true e y v h = cc
+ok_else true e y v h = no_ok e v h
 ok_else false e y v h = (refl, h)
 
 pub ok_then : {A E : Type 0} (b : Bool) (x : Result A E) (e : E) (v : A) → cond b x (Err e) ≡ Ok v → (b ≡ true) × (x ≡ Ok v)
 ok_then true x e v h = (refl, h)
-ok_then false x e v h = cc
+ok_then false x e v h = no_ok e v h
 
-ok_same : {A E : Type 0} (x y : A) → ◌≡◌ {A = Result A E} (Ok x) (Ok y) → x ≡ y
+pub ok_same : {A E : Type 0} (x y : A) → ◌≡◌ {A = Result A E} (Ok x) (Ok y) → x ≡ y
 ok_same x y h = cc
 
 -- a field with this tag and length is there, and says x
