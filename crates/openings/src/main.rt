@@ -10,9 +10,15 @@ use std::io::{BufRead, BufReader};
 
 fn main(rt: HostRuntime) -> anyhow::Result<()> {
     let mut plan = Plan::new(rt.alloc(), standard_kinds())?;
-    let input = BufReader::new(rt.alloc(), rt.stdin())?;
-    for (number, line) in (1..u64::MAX).zip(input.split(rt.alloc(), b'\n')) {
-        open_line(&rt, &mut plan, number, line?.as_slice())?;
+    let mut input = BufReader::new(rt.alloc(), rt.stdin())?;
+    let mut line = Vec::new(rt.alloc());
+    // Kept: one buffer for all lines; `split` makes a new one for each, and long lines then take up to 1.7 times the memory.
+    for number in 1..u64::MAX {
+        line.clear();
+        if input.read_until(b'\n', &mut line)? == 0 {
+            break;
+        }
+        open_line(&rt, &mut plan, number, line.as_slice())?;
     }
     Ok(())
 }
